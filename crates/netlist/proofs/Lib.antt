@@ -1,0 +1,4 @@
+pub mod Laws
+pub mod Limits
+pub mod Use
+pub mod Examples

@@ -1,0 +1,96 @@
+-- The tables of a file that was taken hold its netlist, within the limits; so what is found of the tables is what the file opens as.
+use Prim.Native.Nat.{ℕ, _+_, _<_}
+use mathlib.Core.Path.{_≡_, refl, sym, ap, _∙_, subst, fun-ext}
+use mathlib.Core.List.{List}
+use native.Mathlib.Omega.{arith}
+use lib.ListN.{length, getD}
+use Rattle.chip.specs.Netlist.{Netlist, InLimits, tabled, allPins}
+use Rattle.chip.specs.Class.{LoopFree}
+use Rattle.netlist.specs.Got.{Got, refused, got}
+use Rattle.netlist.specs.Chip.{chipOf}
+use Rattle.netlist.specs.Format.{readOf}
+use Rattle.netlist.specs.Answer.{tablesOf}
+use Rattle.netlist.specs.Holds.{Holds}
+use Rattle.netlist.specs.declared.Sizes.{Sizes}
+use Rattle.netlist.specs.declared.Reading.the-variants as R
+use Rattle.netlist.proofs.Use as N
+use Rattle.netlist.specs.declared.Tables.{Tables}
+use Rattle.structure.specs.Opens.{Deep, Opens, unread, looped, deep, opened}
+use Rattle.structure.specs.Shape.{LowestDeep, Shaped, FoundIs}
+use Rattle.structure.specs.Reply.{ClassReply, refuses, answers}
+use Rattle.structure.specs.declared.Found.{Found}
+use Rattle.structure.specs.declared.Found.the-variants.{Looped, TooDeep, Chip}
+use Rattle.structure.specs.declared.Classed.the-variants.{Class, Refused}
+use Rattle.structure.specs.declared.Shape.{Shape}
+
+-- the netlist that the tables hold
+abbrev pub tablesChip : Tables → Sizes → Netlist
+tablesChip r z = tabled (z .inputs) (z .cells) (z .outputs) (r .kinds) (r .counts) (r .nets)
+
+module _ (file : List ℕ) (r : Tables) (z : Sizes) (h : Holds file r z) where
+  pub tables-chip : tablesChip r z ≡ chipOf (h .x)
+  unfolding chipOf
+  tables-chip = λ i. record {
+    inputs = h .inputs i;
+    cells = h .cells i;
+    outs = h .outputs i;
+    kind = fun-ext (h .kind-at) i;
+    pins = fun-ext (h .count-at) i;
+    net = fun-ext (h .net-at) i;
+  }
+
+  chip-limits : InLimits (chipOf (h .x))
+  unfolding chipOf
+  chip-limits =
+      record {
+        some-input = omega (arith, h .inputs-low, h .inputs);
+        few-inputs = omega (arith, h .inputs-high, h .inputs);
+        few-cells = omega (arith, h .cells-high, h .cells);
+        some-output = omega (arith, h .outputs-low, h .outputs);
+        few-outputs = omega (arith, h .outputs-high, h .outputs);
+        few-pins = omega (arith, h .pins-high, h .pins);
+        kinds-known = λ j l. h .limits .kinds-are j l;
+        pins-taken = λ j l. h .limits .counts-are j l;
+        sound = h .sound;
+      }
+
+  pub tables-limits : InLimits (tablesChip r z)
+  tables-limits = subst InLimits (sym tables-chip) chip-limits
+
+  pub tables-pins : z .pins ≡ allPins (tablesChip r z)
+  tables-pins = h .pins ∙ ap allPins (sym tables-chip)
+
+  pub opens-looped : ¬ LoopFree (tablesChip r z) → Opens file (refused 9 0)
+  opens-looped g = looped (h .read) (subst (λ N. ¬ LoopFree N) tables-chip g)
+
+  pub opens-deep : (y : ℕ) → LoopFree (tablesChip r z) × LowestDeep (tablesChip r z) y → Opens file (refused 10 y)
+  opens-deep y d =
+      let e : LoopFree (chipOf (h .x)) × LowestDeep (chipOf (h .x)) y = subst (λ N. LoopFree N × LowestDeep N y) tables-chip d in
+      deep (h .read) (e .0) (e .1 .deep) (e .1 .none-below)
+
+  -- a chip that is prepared is opened, and its depth, blocks and class are those of the file's netlist
+  pub opens-chip : (firsts order block reached : List ℕ) (s : Shape) → Shaped (tablesChip r z) firsts order block reached s → Opens file (got (h .x))
+  opens-chip firsts order block reached s S =
+      let S′ : Shaped (chipOf (h .x)) firsts order block reached s = subst (λ N. Shaped N firsts order block reached s) tables-chip S in
+      opened (h .read) (S′ .prepared .loop-free)
+      (λ y D. omega (arith, S′ .prepared .depth .within y (D .pin) (D .depth) (D .input) (D .reach), D .over, S′ .shallow))
+
+  pub chip-shaped : (firsts order block reached : List ℕ) (s : Shape) → Shaped (tablesChip r z) firsts order block reached s → Shaped (chipOf (h .x)) firsts order block reached s
+  chip-shaped firsts order block reached s S = subst (λ N. Shaped N firsts order block reached s) tables-chip S
+
+-- what was read and prepared, once the answers are known, is what naming the class replies
+pub reply-refused : (file : List ℕ) (r : Tables) (k p : ℕ) → r ≡ tablesOf (readOf file) → r .reading ≡ R.Refused k p → ClassReply file (Refused k p)
+reply-refused file r k p e q = refuses (unread (N.refuses file r k p e q))
+
+module _ (file : List ℕ) (r : Tables) (z : Sizes) (h : Holds file r z) (firsts order block reached : List ℕ) where
+  pub reply-looped : (a : Found) → FoundIs (tablesChip r z) firsts order block reached a → a ≡ Looped → ClassReply file (Refused 9 0)
+  reply-looped a f e = refuses (opens-looped file r z h (subst (FoundIs (tablesChip r z) firsts order block reached) e f))
+
+  pub reply-deep : (a : Found) (y : ℕ) → FoundIs (tablesChip r z) firsts order block reached a → a ≡ TooDeep y → ClassReply file (Refused 10 y)
+  reply-deep a y f e = refuses (opens-deep file r z h y (subst (FoundIs (tablesChip r z) firsts order block reached) e f))
+
+  pub reply-chip : (a : Found) (s : Shape) → FoundIs (tablesChip r z) firsts order block reached a → a ≡ Chip s → ClassReply file (Class (s .class) (s .depth) (s .blocks))
+  reply-chip a s f e =
+      let S : Shaped (tablesChip r z) firsts order block reached s = subst (FoundIs (tablesChip r z) firsts order block reached) e f in
+      let S′ : Shaped (chipOf (h .x)) firsts order block reached s = chip-shaped file r z h firsts order block reached s S in
+      rw (S′ .count) (answers (opens-chip file r z h firsts order block reached s S) (S′ .prepared))

@@ -1,0 +1,150 @@
+use Prim.Native.Nat.{ℕ}
+use mathlib.Core.Path.{refl}
+use native.Mathlib.Omega.{arith}
+use borrow.Author.Needs.{needs}
+use lib.ListN.{getD-replicate}
+use Rattle.chip.specs.Netlist.{Netlist, tabled}
+use Rattle.order.proofs.Order.{wired, order-free}
+use Rattle.structure.proofs.Evenness.{nets-own}
+use Rattle.structure.proofs.Preparing.{settled-loop, settled-done, depth-over, depth-of, nets-few, blocks-few, blocks-one, shaped}
+use Rattle.structure.proofs.prepare.Statement.{statement}
+use Rattle.structure.proofs.prepare.Tie as tie
+use Rattle.structure.proofs.prepare.Reads as reads
+use Rattle.structure.proofs.prepare.Lts as lts
+use Rattle.blocks.proofs.number_blocks.Reads as number-blocks-reads
+use Rattle.order.proofs.first_pins.Reads as first-pins-reads
+use Rattle.order.proofs.order_cells.Reads as order-cells-reads
+use Rattle.structure.proofs.classify.Reads as classify-reads
+use Rattle.structure.proofs.join_blocks.Reads as join-blocks-reads
+use Rattle.structure.proofs.lowest_uneven.Reads as lowest-uneven-reads
+
+first-pins-requires : tie.Need-first-pins-requires
+first-pins-requires c κs = search needs
+
+order-cells-requires : tie.Need-order-cells-requires
+order-cells-requires c κs =
+    let s = c .before .before .before .before in
+    let a = s .args in
+    wired (a .i) (a .c) (a .o) (a .kinds .now) (a .counts .now) _ (a .nets .now) (c .before .before .first-pins .ensures (a .i) (a .o) (a .kinds .now) (a .nets .now)) (s .pre .0)
+
+enum-told : tie.Need-enum-told
+enum-told c = search needs
+
+returns : tie.Need-returns
+returns c =
+    let o = c .before .before in
+    let f = o .before .before .before in
+    let s = f .before .before in
+    let a = s .args in
+    let F = f .first-pins .ensures (a .i) (a .o) (a .kinds .now) (a .nets .now) in
+    settled-loop _ _ _ (o .order-cells .ensures (a .o) (a .kinds .now) (a .counts .now) F) (c .enum-told .given .1)
+
+enum-told-2 : tie.Need-enum-told-2
+enum-told-2 c = search needs
+
+join-blocks-requires : tie.Need-join-blocks-requires
+join-blocks-requires c κs =
+    let t = c .before .before .before in
+    let o = t .before .before in
+    let f = o .before .before .before in
+    let s = f .before .before in
+    let a = s .args in
+    let F = f .first-pins .ensures (a .i) (a .o) (a .kinds .now) (a .nets .now) in
+    (s .pre .0, (s .pre .1 .0, (F, settled-done _ _ _ (o .order-cells .ensures (a .o) (a .kinds .now) (a .counts .now) F) (t .enum-told2 .given .1))))
+
+enum-known-z : tie.Need-enum-known-z
+enum-known-z c = search needs
+
+returns-2 : tie.Need-returns-2
+returns-2 c =
+    let jb = c .before .before .before in
+    let t = jb .before .before .before .before in
+    let o = t .before .before in
+    let f = o .before .before .before in
+    let s = f .before .before in
+    let a = s .args in
+    let F = f .first-pins .ensures (a .i) (a .o) (a .kinds .now) (a .nets .now) in
+    let O = settled-done _ _ _ (o .order-cells .ensures (a .o) (a .kinds .now) (a .counts .now) F) (t .enum-told2 .given .1) in
+    (order-free O, depth-over _ _ _ _ (jb .join-blocks .ensures) (c .before .z .given .1))
+
+enum-known-d : tie.Need-enum-known-d
+enum-known-d c = search needs
+
+number-blocks-requires : tie.Need-number-blocks-requires
+number-blocks-requires c κs =
+    let dp = c .before .before .before in
+    let jb = dp .before .before in
+    let D = depth-of _ _ _ _ (jb .join-blocks .ensures) (dp .d .given .1) in
+    let s = jb .before .before .before .before .before .before .before .before .before .before .before in
+    (s .pre .0, (s .pre .1 .0, D .lowest))
+
+lowest-uneven-requires : tie.Need-lowest-uneven-requires
+lowest-uneven-requires c κs =
+    let nb = c .before .before .before in
+    let dp = nb .before .before .before .before in
+    let jb = dp .before .before in
+    let D = depth-of _ _ _ _ (jb .join-blocks .ensures) (dp .d .given .1) in
+    let t = jb .before .before .before .before in
+    let o = t .before .before in
+    let f = o .before .before .before in
+    let s = f .before .before in
+    let a = s .args in
+    let F = f .first-pins .ensures (a .i) (a .o) (a .kinds .now) (a .nets .now) in
+    let O = settled-done _ _ _ (o .order-cells .ensures (a .o) (a .kinds .now) (a .counts .now) F) (t .enum-told2 .given .1) in
+    let N : Netlist = tabled (a .i) (a .c) (a .o) (a .kinds .now) (a .counts .now) (a .nets .now) in
+    (s .pre .0, (s .pre .1 .0, (F, (O, ((D .shallow, D .depth .within), (nets-few N (a .nets .now) (s .pre .0) (λ p. refl), (nets-own N (a .nets .now) (λ p. refl), λ l h. getD-replicate 4160 l 0 0 h)))))))
+
+lowest-uneven-requires-2 : tie.Need-lowest-uneven-requires-2
+lowest-uneven-requires-2 c κs =
+    let nb = c .before .before .before .before .before .before .before .before in
+    let dp = nb .before .before .before .before in
+    let jb = dp .before .before in
+    let D = depth-of _ _ _ _ (jb .join-blocks .ensures) (dp .d .given .1) in
+    let t = jb .before .before .before .before in
+    let o = t .before .before in
+    let f = o .before .before .before in
+    let s = f .before .before in
+    let a = s .args in
+    let F = f .first-pins .ensures (a .i) (a .o) (a .kinds .now) (a .nets .now) in
+    let O = settled-done _ _ _ (o .order-cells .ensures (a .o) (a .kinds .now) (a .counts .now) F) (t .enum-told2 .given .1) in
+    let n = nb .number-blocks .ensures in
+    (s .pre .0, (s .pre .1 .0, (F, (O, ((D .shallow, D .depth .within), (blocks-few _ (s .pre .0) _ (D .lowest) _ _ n, (blocks-one _ (s .pre .0) _ (D .lowest) _ _ n, s .pre .1 .1)))))))
+
+classify-requires : tie.Need-classify-requires
+classify-requires c κs = search needs
+
+returns-3 : tie.Need-returns-3
+returns-3 c =
+    let u2 = c .before in
+    let u = u2 .before .before .before .before .before in
+    let nb = u .before .before .before .before in
+    let dp = nb .before .before .before .before in
+    let jb = dp .before .before in
+    let D = depth-of _ _ _ _ (jb .join-blocks .ensures) (dp .d .given .1) in
+    let t = jb .before .before .before .before in
+    let o = t .before .before in
+    let f = o .before .before .before in
+    let s = f .before .before in
+    let a = s .args in
+    let F = f .first-pins .ensures (a .i) (a .o) (a .kinds .now) (a .nets .now) in
+    let O = settled-done _ _ _ (o .order-cells .ensures (a .o) (a .kinds .now) (a .counts .now) F) (t .enum-told2 .given .1) in
+    shaped _ (s .pre .0) _ (D .lowest) _ _ (nb .number-blocks .ensures) (a .nets .now) (λ p. refl) _ _ _ _ _ _ _ _ F O D (u .lowest-uneven .ensures) (u2 .lowest-uneven2 .ensures) (c .classify .ensures)
+
+pub prepare-spec : {M : Type 1} → statement M
+prepare-spec =
+    tie.close
+    (tie.spec
+    first-pins-requires
+    order-cells-requires
+    enum-told
+    returns
+    enum-told-2
+    join-blocks-requires
+    enum-known-z
+    returns-2
+    enum-known-d
+    number-blocks-requires
+    lowest-uneven-requires
+    lowest-uneven-requires-2
+    classify-requires
+    returns-3)

@@ -1,0 +1,4 @@
+pub mod Opens
+pub mod Shape
+pub mod Refusals
+pub mod Reply

@@ -1,0 +1,342 @@
+// From a netlist file to the order of its cells, its depth, blocks and class.
+ghost use mathlib.Core.Path.{_≡_};
+ghost use Prim.Native.Nat.{ℕ, suc, _+_, _≤_, _<_};
+ghost use lib.ListN.{getD};
+ghost use Rattle.chip.specs.Netlist.{tabled, allPins, InLimits, FirstPins};
+ghost use Rattle.chip.specs.Class.{Within};
+ghost use Rattle.order.specs.Order.{Ordered};
+ghost use Rattle.levels.specs.Levels.{MasksBefore};
+ghost use Rattle.blocks.specs.Labels.{labelOf, Labels};
+ghost use Rattle.balance.specs.Balance.{FewLabels, SeenMasks};
+ghost use Rattle.structure.specs.Shape.{OneInput, Deeper, DepthIs, Evened, Classified, FoundIs};
+ghost use Rattle.structure.specs.Reply.{ClassReply};
+use order::Ordering;
+
+// The depth, or the lowest output that is deeper than 255.
+pub enum Depths {
+    Is(usize),
+    Over(usize),
+}
+
+// What is worked out of a netlist: its depth, its class, the number of its blocks,
+// and for class 1 the lowest input with a block of two depths to one output.
+pub struct Shape {
+    pub depth: usize,
+    pub class: u8,
+    pub blocks: usize,
+    pub place: usize,
+}
+
+// A netlist with a loop, one with an output that is too deep, or a chip that is prepared.
+pub enum Found {
+    Looped,
+    TooDeep(usize),
+    Chip(Shape),
+}
+
+// What naming the class answers: class, depth and number of blocks, or a refusal's number and place.
+pub enum Classed {
+    Class(u8, usize, usize),
+    Refused(u8, usize),
+}
+
+// One depth further: the masks at depth e, and the branches joined that reach one output at it. The answer is the outputs reached.
+fn deeper(
+    i: usize,
+    c: usize,
+    o: usize,
+    n: usize,
+    e: usize,
+    kinds: &[u8; 1024],
+    counts: &[u8; 1024],
+    firsts: &[u16; 1025],
+    nets: &[u16; 4096],
+    order: &[u16; 1024],
+    before: &[u64; 1088],
+    after: &mut [u64; 1088],
+    low: &mut [u16; 4096],
+) -> u64
+    requires { ⌜ InLimits (tabled i c o (now kinds) (now counts) (now nets)) ⌝ }
+    requires { ⌜ n ≡ allPins (tabled i c o (now kinds) (now counts) (now nets)) ⌝ }
+    requires { ⌜ FirstPins (tabled i c o (now kinds) (now counts) (now nets)) (now firsts) ⌝ }
+    requires { ⌜ Ordered (tabled i c o (now kinds) (now counts) (now nets)) (now order) ⌝ }
+    requires { ⌜ MasksBefore (tabled i c o (now kinds) (now counts) (now nets)) e (now before) ⌝ }
+    requires { ⌜ Labels (tabled i c o (now kinds) (now counts) (now nets)) (labelOf (tabled i c o (now kinds) (now counts) (now nets)) (now low)) ⌝ }
+    ensures { λ r. ⌜ Deeper (tabled i c o (now (kinds .entry)) (now (counts .entry)) (now (nets .entry))) e (now (after .exit))
+        (labelOf (tabled i c o (now (kinds .entry)) (now (counts .entry)) (now (nets .entry))) (now (low .entry)))
+        (labelOf (tabled i c o (now (kinds .entry)) (now (counts .entry)) (now (nets .entry))) (now (low .exit))) r ⌝ }
+{
+    let mut pins = [0u64; 4096];
+    levels::level(
+        i,
+        c,
+        o,
+        e,
+        kinds,
+        counts,
+        firsts,
+        nets,
+        order,
+        before,
+        &mut pins,
+        after,
+    );
+    blocks::join_level(i, c, o, n, e, kinds, counts, nets, &pins, low);
+    levels::any_net(i + c, after)
+}
+
+// The depth, with the blocks joined on the way.
+fn join_blocks(
+    i: usize,
+    c: usize,
+    o: usize,
+    n: usize,
+    kinds: &[u8; 1024],
+    counts: &[u8; 1024],
+    firsts: &[u16; 1025],
+    nets: &[u16; 4096],
+    order: &[u16; 1024],
+    low: &mut [u16; 4096],
+) -> Depths
+    requires { ⌜ InLimits (tabled i c o (now kinds) (now counts) (now nets)) ⌝ }
+    requires { ⌜ n ≡ allPins (tabled i c o (now kinds) (now counts) (now nets)) ⌝ }
+    requires { ⌜ FirstPins (tabled i c o (now kinds) (now counts) (now nets)) (now firsts) ⌝ }
+    requires { ⌜ Ordered (tabled i c o (now kinds) (now counts) (now nets)) (now order) ⌝ }
+    ensures { λ r. ⌜ DepthIs (tabled i c o (now (kinds .entry)) (now (counts .entry)) (now (nets .entry)))
+        (labelOf (tabled i c o (now (kinds .entry)) (now (counts .entry)) (now (nets .entry))) (now (low .exit))) r ⌝ }
+{
+    let mut before = [0u64; 1088];
+    let mut after = [0u64; 1088];
+    blocks::single_labels(low);
+    let mut e = 0;
+    while e < 256 {
+        let outs = deeper(
+            i,
+            c,
+            o,
+            n,
+            e,
+            kinds,
+            counts,
+            firsts,
+            nets,
+            order,
+            &before,
+            &mut after,
+            low,
+        );
+        if outs == 0 {
+            return Depths::Is(e - 1);
+        }
+        before = after;
+        e += 1;
+    }
+    let over = deeper(
+        i,
+        c,
+        o,
+        n,
+        256,
+        kinds,
+        counts,
+        firsts,
+        nets,
+        order,
+        &before,
+        &mut after,
+        low,
+    );
+    if over == 0 {
+        return Depths::Is(255);
+    }
+    Depths::Over(words::lowest_bit(over))
+}
+
+// The lowest input with branches of one label that reach one output with two depths; i if there is none.
+// Afterwards `seen`, which begins with zeros, has the outputs that each label reaches.
+fn lowest_uneven(
+    i: usize,
+    c: usize,
+    o: usize,
+    n: usize,
+    d: usize,
+    kinds: &[u8; 1024],
+    counts: &[u8; 1024],
+    firsts: &[u16; 1025],
+    nets: &[u16; 4096],
+    order: &[u16; 1024],
+    labels: &[u16; 4096],
+    seen: &mut [u64; 4160],
+) -> usize
+    requires { ⌜ InLimits (tabled i c o (now kinds) (now counts) (now nets)) ⌝ }
+    requires { ⌜ n ≡ allPins (tabled i c o (now kinds) (now counts) (now nets)) ⌝ }
+    requires { ⌜ FirstPins (tabled i c o (now kinds) (now counts) (now nets)) (now firsts) ⌝ }
+    requires { ⌜ Ordered (tabled i c o (now kinds) (now counts) (now nets)) (now order) ⌝ }
+    requires { ⌜ (d ≤ 255) × Within (tabled i c o (now kinds) (now counts) (now nets)) d ⌝ }
+    requires { ⌜ FewLabels (tabled i c o (now kinds) (now counts) (now nets)) (now labels) ⌝ }
+    requires { ⌜ OneInput (tabled i c o (now kinds) (now counts) (now nets)) (now labels) ⌝ }
+    requires { ⌜ ((l : ℕ) → l < 4160 → getD (now seen) l 0 ≡ 0) ⌝ }
+    ensures { λ r. ⌜ Evened (tabled i c o (now (kinds .entry)) (now (counts .entry)) (now (nets .entry))) (now (labels .entry)) d (now (seen .exit)) r ⌝ }
+{
+    let mut before = [0u64; 1088];
+    let mut after = [0u64; 1088];
+    let mut pins = [0u64; 4096];
+    let mut lowest = i;
+    let mut e = 0;
+    while e <= d {
+        levels::level(
+            i,
+            c,
+            o,
+            e,
+            kinds,
+            counts,
+            firsts,
+            nets,
+            order,
+            &before,
+            &mut pins,
+            &mut after,
+        );
+        lowest = balance::conflict(
+            i,
+            c,
+            o,
+            n,
+            e,
+            kinds,
+            counts,
+            nets,
+            &pins,
+            labels,
+            seen,
+            lowest,
+        );
+        balance::see(i, c, o, n, e, kinds, counts, nets, &pins, labels, seen);
+        before = after;
+        e += 1;
+    }
+    lowest
+}
+
+// The class: 1 if a block has two depths to one output, else 2 if an input has, else 3.
+fn classify(i: usize, block: usize, input: usize) -> u8
+    ensures { λ r. ⌜ Classified i block input r ⌝ }
+{
+    if block < i {
+        return 1;
+    }
+    if input < i {
+        return 2;
+    }
+    3
+}
+
+// Prepares a chip from the tables of a netlist that was read.
+pub fn prepare(
+    i: usize,
+    c: usize,
+    o: usize,
+    n: usize,
+    kinds: &[u8; 1024],
+    counts: &[u8; 1024],
+    nets: &[u16; 4096],
+    firsts: &mut [u16; 1025],
+    order: &mut [u16; 1024],
+    block: &mut [u16; 4096],
+    reached: &mut [u64; 4160],
+) -> Found
+    requires { ⌜ InLimits (tabled i c o (now kinds) (now counts) (now nets)) ⌝ }
+    requires { ⌜ n ≡ allPins (tabled i c o (now kinds) (now counts) (now nets)) ⌝ }
+    requires { ⌜ ((l : ℕ) → l < 4160 → getD (now reached) l 0 ≡ 0) ⌝ }
+    ensures { λ r. ⌜ FoundIs (tabled i c o (now (kinds .entry)) (now (counts .entry)) (now (nets .entry))) (now (firsts .exit)) (now (order .exit)) (now (block .exit)) (now (reached .exit)) r ⌝ }
+{
+    let mut low = [0u16; 4096];
+    order::first_pins(counts, c, firsts);
+    match order::order_cells(i, c, firsts, nets, order) {
+        Ordering::Loop => {
+            return Found::Looped;
+        }
+        Ordering::Done => {}
+    }
+    let d = match join_blocks(i, c, o, n, kinds, counts, firsts, nets, order, &mut low) {
+        Depths::Over(z) => {
+            return Found::TooDeep(z);
+        }
+        Depths::Is(d) => d,
+    };
+    let b = blocks::number_blocks(i, c, o, n, kinds, counts, nets, &low, block);
+    let mut seen = [0u64; 4160];
+    let x = lowest_uneven(
+        i,
+        c,
+        o,
+        n,
+        d,
+        kinds,
+        counts,
+        firsts,
+        nets,
+        order,
+        nets,
+        &mut seen,
+    );
+    let y = lowest_uneven(
+        i,
+        c,
+        o,
+        n,
+        d,
+        kinds,
+        counts,
+        firsts,
+        nets,
+        order,
+        block,
+        reached,
+    );
+    Found::Chip(Shape {
+        depth: d,
+        class: classify(i, y, x),
+        blocks: b,
+        place: y,
+    })
+}
+
+// Names the class of a netlist file, with its depth and the number of its blocks, or refuses it: 1 to 8 of reading, 9, 10.
+pub fn class_of(file: &[u8]) -> Classed
+    ensures { λ r. ⌜ ClassReply (now (file .entry)) r ⌝ }
+{
+    let t = netlist::read(file);
+    let reading = t.reading;
+    let z = match reading {
+        netlist::Reading::Refused(k, p) => {
+            return Classed::Refused(k, p);
+        }
+        netlist::Reading::Taken(z) => z,
+    };
+    let kinds = t.kinds;
+    let counts = t.counts;
+    let nets = t.nets;
+    let mut firsts = [0u16; 1025];
+    let mut order = [0u16; 1024];
+    let mut block = [0u16; 4096];
+    let mut reached = [0u64; 4160];
+    match prepare(
+        z.inputs,
+        z.cells,
+        z.outputs,
+        z.pins,
+        &kinds,
+        &counts,
+        &nets,
+        &mut firsts,
+        &mut order,
+        &mut block,
+        &mut reached,
+    ) {
+        Found::Looped => Classed::Refused(9, 0),
+        Found::TooDeep(y) => Classed::Refused(10, y),
+        Found::Chip(s) => Classed::Class(s.class, s.depth, s.blocks),
+    }
+}

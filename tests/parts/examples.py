@@ -1,0 +1,105 @@
+"""The worked examples of 01, in both modes."""
+
+from itertools import product
+
+from simulator.calls import CHECK, CLASS, READ, SEARCH, SET, TRANSFORM, Call, answer
+from simulator.definition import calls as definition
+from simulator.faults import NET, all_faults
+from simulator.generators import Draft
+from simulator.modes import BY_DEFINITION, FIRST
+from simulator.reading import AND, BUF, DFF, NOT, OR, XOR, Netlist, read, write
+from simulator.tally import Tally
+
+LISTING_FILE = bytes.fromhex("01 00 01 02 00 08 01 00 00 06 02 00 00 01 00 01 00 02 02 00")
+LISTING_TEXT = """\
+in 1 cells 2 out 1 depth 1 class 2 blocks 2
+n0/0 out 0 tries 2 play 1 0
+n0/1 out 0 tries 2 play 1 0
+n1/0 out 0 tries 2 play 1 0
+n1/1 out 0 tries 1 play 0 0
+n2/0 out 0 tries 2 play 1 0
+n2/1 out 0 tries 1 play 0 0
+p0/0 out 0 tries 2 play 1 0
+p0/1 out 0 tries 1 play 0 0
+p1/0 out 0 tries 3 play 0 1
+p1/1 out 0 tries 1 play 0 0
+p2/0 out 0 tries 2 play 1 0
+p2/1 out 0 tries 1 play 0 0
+p3/0 out 0 tries 2 play 1 0
+p3/1 out 0 tries 1 play 0 0
+"""
+TRANSFORMED = "02 00 01 02 02 00 00 01 00 00 06 02 01 00 02 00 01 00 03 03 00".replace(" ", "")
+
+
+def file_of(inputs, cells, outputs):
+    """A file with pads in order; cells as (kind, net, net ...)."""
+    return write(Netlist(tuple(range(1, inputs + 1)), tuple(cell[0] for cell in cells),
+                         tuple(cell[1:] for cell in cells),
+                         tuple(range(inputs + 1, inputs + 1 + len(outputs))), tuple(outputs)))
+
+
+P5 = file_of(1, [], [0])
+P6 = file_of(1, [(NOT, 0), (AND, 0, 1)], [2])
+P7 = file_of(1, [(DFF, 0)], [1, 0])
+P8 = file_of(1, [(BUF, 0), (DFF, 1), (XOR, 1, 2)], [3])
+P9 = file_of(1, [(DFF, 1)], [1])
+
+
+def chain_of(length):
+    """Flip-flops in a row from the input to the output."""
+    return file_of(1, [(DFF, k) for k in range(length)], [length])
+
+
+def cone_of(inputs):
+    """So many inputs into two ANDs, those into an OR."""
+    draft = Draft(inputs)
+    low = draft.cell(AND, *range(8))
+    high = draft.cell(AND, *range(8, 16))
+    top = draft.cell(OR, low, high, *range(16, inputs))
+    return file_of(inputs, [(kind, *nets) for kind, nets in zip(draft.kinds, draft.cells)], [top])
+
+
+def search(file, sort, number, stuck, room):
+    return Call(SEARCH, file, (sort, number, stuck, room))
+
+
+def known_lines():
+    """The calls with known answers."""
+    yield "P1", Call(CLASS, LISTING_FILE), "class 2 depth 1 blocks 2"
+    yield "P2", Call(SET, LISTING_FILE, (0, b"\1\0", 2)), "set 2 0100"
+    yield "P3", Call(TRANSFORM, LISTING_FILE, (21,)), "written 21 " + TRANSFORMED
+    yield "P3 again", Call(TRANSFORM, bytes.fromhex(TRANSFORMED), (21,)), "written 21 " + TRANSFORMED
+    for fault, play in product(all_faults(read(LISTING_FILE)), (b"\0", b"\1")):
+        yield "P4", Call(CHECK, LISTING_FILE, (fault.sort, fault.number, fault.stuck, play)), "not seen"
+    yield "P5", Call(CLASS, P5), "class 3 depth 0 blocks 1"
+    yield "P5", search(P5, NET, 0, 0, 1), "found out 0 pattern 1 tries 2 01"
+    yield "P5", Call(CHECK, P5, (NET, 0, 0, b"\1")), "shown clock 0 output 0"
+    yield "P6", Call(CLASS, P6), "class 3 depth 0 blocks 1"
+    yield "P6", search(P6, NET, 2, 0, 1), "untestable tries 2 ee"
+    yield "P7", Call(CLASS, P7), "class 3 depth 1 blocks 2"
+    yield "P8", Call(CLASS, P8), "class 1 depth 1 blocks 1"
+    for fault in all_faults(read(P8)):
+        yield "P8", search(P8, fault.sort, fault.number, fault.stuck, 2), "refused 11 at 0 eeee"
+    yield "P9", Call(CLASS, P9), "refused 9 at 0"
+    yield "P10", Call(READ, b""), "refused 1 at 0"
+    yield "P10", Call(CLASS, b""), "refused 1 at 0"
+    yield "255 flip-flops", Call(CLASS, chain_of(255)), "class 3 depth 255 blocks 1"
+    yield "255 flip-flops", search(chain_of(255), NET, 0, 0, 256), "found out 0 pattern 1 tries 2 01" + "00" * 255
+    yield "256 flip-flops", Call(CLASS, chain_of(256)), "refused 10 at 0"
+    yield "sixteen", search(cone_of(16), NET, 18, 0, 16), "found out 0 pattern 255 tries 256 " + "01" * 8 + "00" * 8
+    yield "seventeen", search(cone_of(17), NET, 19, 0, 17), "refused 16 at 0 " + "ee" * 17
+
+
+def parts(_):
+    tally = Tally("worked examples, in both modes")
+    for name, call, line in known_lines():
+        for mode in (FIRST, BY_DEFINITION):
+            tally.equal(line, answer(call, mode), lambda: f"{name}: netlist {call.file.hex()}\n  call   {call}")
+    for mode in (FIRST, BY_DEFINITION):
+        tally.equal(LISTING_TEXT, mode.listing(LISTING_FILE), lambda: "the listing's text")
+    late = Call(CHECK, chain_of(255), (NET, 0, 0, b"\1" + bytes(255)))
+    tally.equal("shown clock 255 output 0", answer(late, FIRST), lambda: f"call {late}")
+    for fault in all_faults(read(P6)):
+        tested = "untestable" not in answer(search(P6, fault.sort, fault.number, fault.stuck, 1), FIRST)
+        tally.equal(tested, definition.some_play_shows(P6, fault), lambda: f"P6: some play shows {fault}")
+    yield tally

@@ -1,0 +1,142 @@
+"""The calls of each code: drawn, answered by the simulator, and compared with the program `calls`."""
+
+import random
+from pathlib import Path
+
+from simulator import generators as g
+from simulator import programs
+from simulator.calls import (CHECK, CLASS, FIELDS, LONGEST, NAMES, READ, READ_BACK, SEARCH, SET, TRANSFORM, Call,
+                             answer, encode)
+from simulator.draw import draw_calls
+from simulator.hits import MUST, hits
+from simulator.modes import BY_DEFINITION, FIRST
+from simulator.tally import Tally
+
+CODES = Path(__file__).resolve().parents[1] / "codes.txt"
+
+# The listing's netlist, P8, and one with several inputs, outputs and kinds.
+SMALL_FILES = tuple(map(bytes.fromhex, (
+    "0100 01 0200 0801 0000 0602 0000 0100 0100 02 0200",
+    "0100 01 0300 0001 0000 0801 0100 0602 0100 0200 0100 02 0300",
+    "0200 01 02 0300 0202 0000 0100 0901 0200 0603 0300 0000 0200 0200 03 0300 04 0400",
+)))
+
+
+def listed_codes():
+    """The codes that the program has to know by now."""
+    return [int(line) for line in CODES.read_text().split()]
+
+
+def draw_files(volumes):
+    """For code 0: all truncations and byte changes of small files, then random and damaged files."""
+    rng = random.Random(volumes.seed)
+    for file in SMALL_FILES:
+        yield from g.every_truncation(file)
+        yield from g.every_byte_change(file)
+    for count in range(volumes.files):
+        if count % 250 == 0:
+            yield g.too_many_pins(rng).file(rng)
+        elif count % 10 == 0:
+            yield g.noise(rng)
+        elif count % 10 == 1:
+            yield g.readable(rng, g.MIDDLE)
+        elif count % 10 == 2:
+            yield g.damaged(rng, g.damaged(rng, g.readable(rng, g.SMALL)))
+        else:
+            yield g.damaged(rng, g.readable(rng, g.SMALL))
+    yield g.largest(rng).file(rng)
+    yield bytes(LONGEST)
+    yield g.largest(rng).file(rng).ljust(LONGEST, b"\0")
+
+
+def compare(tally, calls, lines):
+    """Holds the program's lines to the simulator's, and says so in the part's name."""
+    try:
+        wrote, status = programs.run("calls", b"".join(map(encode, calls)))
+    except programs.NoProgram as missing:
+        tally.fail(str(missing))
+        return
+    got = wrote.decode("ascii", "replace").split("\n")
+    tally.equal("", got.pop(), lambda: "the last line of the program calls is not ended")
+    tally.equal((0, len(calls)), (status, len(got)), lambda: "exit status and number of lines of the program calls")
+    for call, wanted, line in zip(calls, lines, got):
+        tally.equal(wanted, line, lambda: f"netlist {call.file.hex()}\n  call   {call}")
+    tally.name += f", {len(calls)} compared with the program"
+
+
+def part(codes, calls):
+    """Some codes: the hits are asserted in any case, the program is compared on the codes that it has to know."""
+    tally = Tally("calls of " + ", ".join(f"code {code} ({NAMES[code]})" for code in codes))
+    lines = [answer(call, FIRST) for call in calls]
+    for call, line in zip(calls, lines):
+        tally.hit(*((call.code, name) for name in hits(call, line)))
+    tally.must_hit((code, name) for code in codes for name in MUST[code])
+    if programs.is_listed("calls"):
+        known = [(call, line) for call, line in zip(calls, lines) if call.code in listed_codes()]
+        if known:
+            compare(tally, *zip(*known))
+    if codes == (READ,):
+        for call, line in zip(calls, lines):
+            tally.equal(line, answer(call, BY_DEFINITION), lambda: f"netlist {call.file.hex()}\n  read by definition")
+    return tally
+
+
+def sample_call(code, changed=None, value=None):
+    """A call of a code on a small file, with one field changed."""
+    fields = {name: b"\1" if name in ("pattern", "play") else 1 for name in FIELDS[code]}
+    if changed:
+        fields[changed] = value
+    return Call(code, SMALL_FILES[0], tuple(fields.values()))
+
+
+def bad_inputs(codes):
+    """Calls that are cut at every byte, calls of unknown codes, and strings and buffers one byte too long."""
+    for code in codes:
+        whole = encode(sample_call(code))
+        yield from (whole[:length] for length in range(1, len(whole)))
+        yield encode(Call(code, bytes(LONGEST + 1), sample_call(code).fields))
+        for name in FIELDS[code]:
+            if name in ("pattern", "play"):
+                yield encode(sample_call(code, name, bytes(LONGEST + 1)))
+            elif name == "room":
+                yield encode(sample_call(code, name, LONGEST + 1))
+    for unknown in (128, 255):
+        yield bytes((unknown,)) + encode(sample_call(READ))[1:]
+
+
+def bad_calls():
+    """After input that is no call the program ends with `bad call`, and the lines before it stand."""
+    tally = Tally("bad calls")
+    if not programs.is_listed("calls"):
+        return tally
+    before = sample_call(READ)
+    wanted = f"{answer(before, FIRST)}\nbad call\n".encode()
+    for data in bad_inputs(listed_codes()):
+        try:
+            wrote, _ = programs.run("calls", encode(before) + data)
+        except programs.NoProgram as missing:
+            tally.fail(str(missing))
+            break
+        tally.equal(wanted, wrote, lambda: f"input of {len(data)} bytes, first {data[:80].hex()}")
+    return tally
+
+
+def codes_known():
+    """That the program is compared on something, and on nothing that is no code."""
+    tally = Tally("codes.txt")
+    codes = listed_codes()
+    tally.case(set(codes) <= set(FIELDS) and len(set(codes)) == len(codes), lambda: f"codes {codes}")
+    tally.case(READ in codes or not programs.is_listed("calls"),
+               lambda: "crates.txt lists calls, and code 0 is not compared")
+    return tally
+
+
+def parts(volumes):
+    yield codes_known()
+    yield part((READ,), [Call(READ, file) for file in draw_files(volumes)])
+    yield part((CLASS,), draw_calls(random.Random(volumes.seed + 1), (CLASS,), volumes.classes, each=1))
+    yield part((TRANSFORM, SET, READ_BACK),
+               draw_calls(random.Random(volumes.seed + 2), (TRANSFORM, SET, READ_BACK), volumes.settings, each=6))
+    yield part((CHECK,), draw_calls(random.Random(volumes.seed + 3), (CHECK,), volumes.checks))
+    yield part((SEARCH,), draw_calls(random.Random(volumes.seed + 4), (SEARCH,), volumes.searches))
+    yield bad_calls()

@@ -1,0 +1,17 @@
+"""How much is drawn, and from which seed. The values here are those of the gate."""
+
+from dataclasses import dataclass
+
+
+@dataclass(frozen=True)
+class Volumes:
+    seed: int = 1
+    files: int = 10_000  # random and damaged files for code 0, beside all changes of three small ones
+    classes: int = 5_000  # calls of code 1
+    settings: int = 10_000  # calls of codes 2, 3 and 4 together
+    checks: int = 10_000  # calls of code 5
+    searches: int = 5_000  # calls of code 6
+    listings: int = 300  # netlists for the program listing
+    small: int = 2_000  # small netlists on which the two modes are compared
+    laws: int = 300  # larger netlists on which the laws are tried
+    slips: int = 400  # netlists on which each slip may be caught
