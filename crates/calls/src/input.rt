@@ -101,3 +101,21 @@ pub fn next_string(
     }
     Number::Is(n)
 }
+
+// The length of a part of `lent`, or `Bad` if it has not so many bytes.
+pub fn next_room(ready: &mut [u8; 65536], at: &mut usize, end: &mut usize, lent: &[u8]) -> Number
+    requires { ⌜ now end ≤ 65536 ⌝ }
+    ensures { λ _. ⌜ now (end .exit) ≤ 65536 ⌝ }
+    ensures { λ r. ⌜ Within r (length (now (lent .entry))) ⌝ }
+{
+    let n = match next_number(ready, at, end) {
+        Number::Bad => {
+            return Number::Bad;
+        }
+        Number::Is(n) => n,
+    };
+    if lent.len() < n {
+        return Number::Bad;
+    }
+    Number::Is(n)
+}

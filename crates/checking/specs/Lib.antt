@@ -1,0 +1,5 @@
+pub mod Lists
+pub mod Clock
+pub mod Verdict
+pub mod Answered
+pub mod Reply

@@ -1,0 +1,130 @@
+-- Each way that setting and reading back end is what their replies allow.
+use Prim.Native.Nat.{ℕ, suc, _*_, _≤_, _<_}
+use mathlib.Core.Path.{_≡_, sym, ap, _∙_, subst}
+use mathlib.Core.Logic.{_⊎_, _≢_}
+use mathlib.Core.List.{List}
+use lib.ListN.{length}
+use Rattle.chip.specs.Netlist.{Netlist, InLimits, allPins}
+use Rattle.chip.specs.Class.{Lowest, blocks}
+use Rattle.netlist.specs.Got.{refused, got}
+use Rattle.netlist.specs.Format.{Parsed}
+use Rattle.netlist.specs.Chip.{chipOf}
+use Rattle.netlist.specs.Holds.{Holds}
+use Rattle.netlist.specs.declared.Sizes.{Sizes}
+use Rattle.netlist.specs.declared.Tables.{Tables}
+use Rattle.structure.specs.Opens.{Opens}
+use Rattle.structure.specs.Refusals.{FirstAboveOne, AllBits, Fit, Clocks}
+use Rattle.structure.specs.Shape.{Shaped, FoundIs}
+use Rattle.structure.specs.declared.Shape.{Shape}
+use Rattle.structure.specs.declared.Found.{Found}
+use Rattle.structure.specs.declared.Found.the-variants.{Looped, TooDeep, Chip}
+use Rattle.structure.proofs.Opening.{tablesChip, opens-looped, opens-deep}
+use Rattle.clocks.specs.Swept.{Even, PlaySet, PatternRead}
+use Rattle.clocks.specs.Reply.{SetReply, ReadReply}
+use Rattle.clocks.specs.declared.Setting.the-variants.{Set, Unset}
+use Rattle.clocks.specs.declared.Reading.the-variants.{Read, Unread}
+
+module _ {N : Netlist} {n : ℕ} {firsts order block reached : List ℕ} {s : Shape} (limits : InLimits N) (pins : n ≡ allPins N) (S : Shaped N firsts order block reached s) where
+  -- the chip's tables are such as a sweep asks for
+  pub shaped-even : s .class ≢ 1 → Even N n (s .depth) (s .blocks) firsts order block
+  shaped-even g =
+      record {
+        limits = limits;
+        pins = pins;
+        first-pins = S .first-pins;
+        ordered = S .ordered;
+        low = S .low;
+        class = s .class;
+        prepared = S .prepared;
+        even = g;
+        block-table = S .block-table;
+        count = S .count;
+        shallow = S .shallow;
+      }
+
+-- the netlist N of the tables is that of the file
+module _ {N : Netlist} {firsts order block reached : List ℕ} {s : Shape} (S₀ : Shaped N firsts order block reached s)
+    (file : List ℕ) (x : Parsed) (opens : Opens file (got x)) (q : N ≡ chipOf x) (output : ℕ) where
+  S : Shaped (chipOf x) firsts order block reached s
+  S = subst (λ M. Shaped M firsts order block reached s) q S₀
+
+  there : output < N .outs → output < chipOf x .outs
+  there l = subst (λ M. output < M .outs) q l
+
+  fit : s .class ≢ 1 → Fit file x (s .depth) (S .low)
+  fit g = record { opens = opens; class = s .class; prepared = S .prepared; even = g }
+
+  module _ (pattern entry : List ℕ) where
+    pub set-no-output : N .outs ≤ output → SetReply file output pattern entry (Unset 13 0) entry
+    set-no-output l = SetReply.no-output opens (subst (λ M. M .outs ≤ output) q l)
+
+    pub set-uneven : output < N .outs → s .class ≡ 1 → SetReply file output pattern entry (Unset 11 (s .place)) entry
+    set-uneven l e = SetReply.uneven opens (there l) (record { two = S .place e .0; none-below = S .place e .1 })
+
+    module _ (l : output < N .outs) (g : s .class ≢ 1) where
+      pub set-bad-length : length pattern ≢ s .blocks → SetReply file output pattern entry (Unset 14 (length pattern)) entry
+      set-bad-length h = SetReply.bad-length (fit g) (there l) (λ e. h (e ∙ sym (S .count)))
+
+      module _ (e : length pattern ≡ s .blocks) where
+        pub set-bad-byte : (k : ℕ) → FirstAboveOne pattern k → SetReply file output pattern entry (Unset 14 k) entry
+        set-bad-byte k F = SetReply.bad-byte (fit g) (there l) (e ∙ S .count) F
+
+        pub set-too-short : AllBits pattern → length entry < suc (s .depth) * N .inputs → SetReply file output pattern entry (Unset 15 (suc (s .depth) * N .inputs)) entry
+        set-too-short bits h =
+            subst (λ m. SetReply file output pattern entry (Unset 15 (suc (s .depth) * m)) entry) (ap (λ M. M .inputs) (sym q))
+            (SetReply.too-short (fit g) (there l) (e ∙ S .count) bits (subst (λ M. length entry < suc (s .depth) * M .inputs) q h))
+
+        pub set-sets : (exit : List ℕ) → AllBits pattern → ((low : ℕ → ℕ) → Lowest N low → PlaySet N (blocks N low) (s .depth) output pattern entry exit)
+            → SetReply file output pattern entry (Set (suc (s .depth) * N .inputs)) exit
+        set-sets exit bits P₀ =
+            let P : PlaySet (chipOf x) (blocks (chipOf x) (S .low)) (s .depth) output pattern entry exit =
+            subst (λ M. (low : ℕ → ℕ) → Lowest M low → PlaySet M (blocks M low) (s .depth) output pattern entry exit) q P₀ (S .low) (S .prepared .lowest) in
+            subst (λ m. SetReply file output pattern entry (Set (suc (s .depth) * m)) exit) (ap (λ M. M .inputs) (sym q))
+            (SetReply.sets (fit g) (there l) (e ∙ S .count) bits (P .is-play) (P .sets) (P .wrote))
+
+  module _ (play : List ℕ) (clock : ℕ) (entry : List ℕ) where
+    pub read-no-output : N .outs ≤ output → ReadReply file output play clock entry (Unread 13 0) entry
+    read-no-output l = ReadReply.no-output opens (subst (λ M. M .outs ≤ output) q l)
+
+    pub read-uneven : output < N .outs → s .class ≡ 1 → ReadReply file output play clock entry (Unread 11 (s .place)) entry
+    read-uneven l e = ReadReply.uneven opens (there l) (record { two = S .place e .0; none-below = S .place e .1 })
+
+    module _ (l : output < N .outs) (g : s .class ≢ 1) where
+      pub read-bad-length : ((m : ℕ) → ¬ Clocks (N .inputs) play m) → ReadReply file output play clock entry (Unread 14 (length play)) entry
+      read-bad-length h = ReadReply.bad-length (fit g) (there l) (subst (λ M. (m : ℕ) → ¬ Clocks (M .inputs) play m) q h)
+
+      module _ (m : ℕ) (C₀ : Clocks (N .inputs) play m) where
+        C : Clocks (chipOf x .inputs) play m
+        C = subst (λ M. Clocks (M .inputs) play m) q C₀
+
+        pub read-bad-byte : (k : ℕ) → FirstAboveOne play k → ReadReply file output play clock entry (Unread 14 k) entry
+        read-bad-byte k F = ReadReply.bad-byte (fit g) (there l) C F
+
+        module _ (bits : AllBits play) where
+          pub read-bad-clock : (clock < s .depth) ⊎ (m ≤ clock) → ReadReply file output play clock entry (Unread 14 m) entry
+          read-bad-clock h = ReadReply.bad-clock (fit g) (there l) C bits h
+
+          module _ (late : s .depth ≤ clock) (inside : clock < m) where
+            pub read-too-short : length entry < s .blocks → ReadReply file output play clock entry (Unread 15 (s .blocks)) entry
+            read-too-short h =
+                subst (λ b. ReadReply file output play clock entry (Unread 15 b) entry) (sym (S .count))
+                (ReadReply.too-short (fit g) (there l) C bits late inside (subst (λ b. length entry < b) (S .count) h))
+
+            pub read-reads : (exit : List ℕ) → ((low : ℕ → ℕ) → Lowest N low → PatternRead N (blocks N low) (s .depth) output clock play entry exit)
+                → ReadReply file output play clock entry (Read (s .blocks)) exit
+            read-reads exit P₀ =
+                let P : PatternRead (chipOf x) (blocks (chipOf x) (S .low)) (s .depth) output clock play entry exit =
+                subst (λ M. (low : ℕ → ℕ) → Lowest M low → PatternRead M (blocks M low) (s .depth) output clock play entry exit) q P₀ (S .low) (S .prepared .lowest) in
+                subst (λ b. ReadReply file output play clock entry (Read b) exit) (sym (S .count))
+                (ReadReply.reads (fit g) (there l) C bits late inside (P .long) (P .bits) (P .reads) (P .wrote))
+
+-- what was found of the tables of a file that was taken
+module _ (file : List ℕ) (r : Tables) (z : Sizes) (h : Holds file r z) (firsts order block reached : List ℕ) (a : Found) (f : FoundIs (tablesChip r z) firsts order block reached a) where
+  pub found-looped : a ≡ Looped → Opens file (refused 9 0)
+  found-looped e = opens-looped file r z h (subst (FoundIs (tablesChip r z) firsts order block reached) e f)
+
+  pub found-deep : (y : ℕ) → a ≡ TooDeep y → Opens file (refused 10 y)
+  found-deep y e = opens-deep file r z h y (subst (FoundIs (tablesChip r z) firsts order block reached) e f)
+
+  pub found-chip : (s : Shape) → a ≡ Chip s → Shaped (tablesChip r z) firsts order block reached s
+  found-chip s e = subst (FoundIs (tablesChip r z) firsts order block reached) e f

@@ -1,0 +1,4 @@
+pub mod Reply
+pub mod Copied
+pub mod Checked
+pub mod Swept

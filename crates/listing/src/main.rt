@@ -1,0 +1,441 @@
+// Lists a netlist from standard input: a line of sizes and a line for each fault, or the one line of its refusal.
+ghost use Prim.Native.Nat.{_≤_, _<_};
+ghost use Rattle.chip.specs.Netlist.{tabled};
+ghost use Rattle.search.specs.Walk.{Ready};
+use chip::Fault;
+use chip::Site;
+use netlist::Reading;
+use search::Searched;
+use structure::Found;
+use structure::Shape;
+
+// The i digits of a clock, which begins at a place of the play.
+fn digits(play: &[u8], from: usize, i: usize, line: &mut [u8; 65536], used: &mut usize)
+    requires { ⌜ (from ≤ 65536) × (i ≤ 64) ⌝ }
+{
+    for x in 0..i {
+        if from + x < play.len() {
+            lines::field(line, used, b"", chip::wide8(play[from + x]));
+        }
+    }
+}
+
+// The clocks of a play in order, i digits each.
+fn clocks(play: &[u8], i: usize, d: usize, line: &mut [u8; 65536], used: &mut usize)
+    requires { ⌜ (i ≤ 64) × (d ≤ 255) ⌝ }
+{
+    let mut from = 0;
+    let mut t = 0;
+    while t <= d {
+        lines::text(line, used, b" ");
+        digits(play, from, i, line, used);
+        from += i;
+        t += 1;
+    }
+}
+
+// The site and the stuck value.
+fn name(fault: Fault, line: &mut [u8; 65536], used: &mut usize) {
+    let site = fault.site;
+    match site {
+        Site::Net(n) => {
+            lines::field(line, used, b"n", n);
+        }
+        Site::Pin(p) => {
+            lines::field(line, used, b"p", p);
+        }
+    }
+    lines::field(line, used, b"/", chip::wide8(fault.stuck));
+}
+
+// The line of a fault from its answer.
+fn answer(r: Searched, play: &[u8], i: usize, d: usize, line: &mut [u8; 65536], used: &mut usize)
+    requires { ⌜ (i ≤ 64) × (d ≤ 255) ⌝ }
+{
+    match r {
+        Searched::Found(z, _, k) => {
+            lines::field(line, used, b" out ", z);
+            lines::field(line, used, b" tries ", k);
+            lines::text(line, used, b" play");
+            clocks(play, i, d, line, used);
+        }
+        Searched::Untestable(k) => {
+            lines::field(line, used, b" untestable tries ", k);
+        }
+        Searched::Refused(k, p) => {
+            lines::text(line, used, b" ");
+            lines::refused(line, used, k, p);
+        }
+    }
+    lines::text(line, used, b"\n");
+}
+
+// The line of a fault.
+fn fault_line(
+    i: usize,
+    c: usize,
+    o: usize,
+    n: usize,
+    s: Shape,
+    fault: Fault,
+    kinds: &[u8; 1024],
+    counts: &[u8; 1024],
+    firsts: &[u16; 1025],
+    nets: &[u16; 4096],
+    order: &[u16; 1024],
+    block: &[u16; 4096],
+    reached: &[u64; 4160],
+    cone: &[u64; 4096],
+    play: &mut [u8],
+    line: &mut [u8; 65536],
+    used: &mut usize,
+)
+    requires { ⌜ Ready (tabled i c o (now kinds) (now counts) (now nets)) n s (now firsts) (now order) (now block) (now reached) (now cone) ⌝ }
+{
+    name(fault, line, used);
+    let r = search::search_chip(
+        i,
+        c,
+        o,
+        n,
+        s,
+        fault,
+        kinds,
+        counts,
+        firsts,
+        nets,
+        order,
+        block,
+        reached,
+        cone,
+        play,
+    );
+    answer(r, play, i, s.depth, line, used);
+}
+
+// The lines of a site, stuck at 0 and at 1.
+fn site_lines(
+    i: usize,
+    c: usize,
+    o: usize,
+    n: usize,
+    s: Shape,
+    site: Site,
+    kinds: &[u8; 1024],
+    counts: &[u8; 1024],
+    firsts: &[u16; 1025],
+    nets: &[u16; 4096],
+    order: &[u16; 1024],
+    block: &[u16; 4096],
+    reached: &[u64; 4160],
+    cone: &[u64; 4096],
+    play: &mut [u8],
+    line: &mut [u8; 65536],
+    used: &mut usize,
+)
+    requires { ⌜ Ready (tabled i c o (now kinds) (now counts) (now nets)) n s (now firsts) (now order) (now block) (now reached) (now cone) ⌝ }
+{
+    let zero = Fault {
+        site: site,
+        stuck: 0,
+    };
+    fault_line(
+        i,
+        c,
+        o,
+        n,
+        s,
+        zero,
+        kinds,
+        counts,
+        firsts,
+        nets,
+        order,
+        block,
+        reached,
+        cone,
+        play,
+        line,
+        used,
+    );
+    let one = Fault {
+        site: site,
+        stuck: 1,
+    };
+    fault_line(
+        i,
+        c,
+        o,
+        n,
+        s,
+        one,
+        kinds,
+        counts,
+        firsts,
+        nets,
+        order,
+        block,
+        reached,
+        cone,
+        play,
+        line,
+        used,
+    );
+}
+
+// The lines of all nets.
+fn net_lines(
+    i: usize,
+    c: usize,
+    o: usize,
+    n: usize,
+    s: Shape,
+    kinds: &[u8; 1024],
+    counts: &[u8; 1024],
+    firsts: &[u16; 1025],
+    nets: &[u16; 4096],
+    order: &[u16; 1024],
+    block: &[u16; 4096],
+    reached: &[u64; 4160],
+    cone: &[u64; 4096],
+    play: &mut [u8],
+    line: &mut [u8; 65536],
+    used: &mut usize,
+)
+    requires { ⌜ Ready (tabled i c o (now kinds) (now counts) (now nets)) n s (now firsts) (now order) (now block) (now reached) (now cone) ⌝ }
+{
+    for k in 0..i + c {
+        site_lines(
+            i,
+            c,
+            o,
+            n,
+            s,
+            Site::Net(k),
+            kinds,
+            counts,
+            firsts,
+            nets,
+            order,
+            block,
+            reached,
+            cone,
+            play,
+            line,
+            used,
+        );
+    }
+}
+
+// The lines of all pins.
+fn pin_lines(
+    i: usize,
+    c: usize,
+    o: usize,
+    n: usize,
+    s: Shape,
+    kinds: &[u8; 1024],
+    counts: &[u8; 1024],
+    firsts: &[u16; 1025],
+    nets: &[u16; 4096],
+    order: &[u16; 1024],
+    block: &[u16; 4096],
+    reached: &[u64; 4160],
+    cone: &[u64; 4096],
+    play: &mut [u8],
+    line: &mut [u8; 65536],
+    used: &mut usize,
+)
+    requires { ⌜ Ready (tabled i c o (now kinds) (now counts) (now nets)) n s (now firsts) (now order) (now block) (now reached) (now cone) ⌝ }
+{
+    for p in 0..n {
+        site_lines(
+            i,
+            c,
+            o,
+            n,
+            s,
+            Site::Pin(p),
+            kinds,
+            counts,
+            firsts,
+            nets,
+            order,
+            block,
+            reached,
+            cone,
+            play,
+            line,
+            used,
+        );
+    }
+}
+
+// The line of sizes.
+fn sizes(i: usize, c: usize, o: usize, s: Shape, line: &mut [u8; 65536], used: &mut usize) {
+    lines::field(line, used, b"in ", i);
+    lines::field(line, used, b" cells ", c);
+    lines::field(line, used, b" out ", o);
+    lines::field(line, used, b" depth ", s.depth);
+    lines::field(line, used, b" class ", chip::wide8(s.class));
+    lines::field(line, used, b" blocks ", s.blocks);
+    lines::text(line, used, b"\n");
+}
+
+// The listing of a chip that is prepared.
+fn list(
+    i: usize,
+    c: usize,
+    o: usize,
+    n: usize,
+    s: Shape,
+    kinds: &[u8; 1024],
+    counts: &[u8; 1024],
+    firsts: &[u16; 1025],
+    nets: &[u16; 4096],
+    order: &[u16; 1024],
+    block: &[u16; 4096],
+    reached: &[u64; 4160],
+    cone: &[u64; 4096],
+    play: &mut [u8],
+    line: &mut [u8; 65536],
+    used: &mut usize,
+)
+    requires { ⌜ Ready (tabled i c o (now kinds) (now counts) (now nets)) n s (now firsts) (now order) (now block) (now reached) (now cone) ⌝ }
+{
+    sizes(i, c, o, s, line, used);
+    net_lines(
+        i,
+        c,
+        o,
+        n,
+        s,
+        kinds,
+        counts,
+        firsts,
+        nets,
+        order,
+        block,
+        reached,
+        cone,
+        play,
+        line,
+        used,
+    );
+    pin_lines(
+        i,
+        c,
+        o,
+        n,
+        s,
+        kinds,
+        counts,
+        firsts,
+        nets,
+        order,
+        block,
+        reached,
+        cone,
+        play,
+        line,
+        used,
+    );
+}
+
+// The one line of a netlist that is refused.
+fn refused(number: u8, place: usize, line: &mut [u8; 65536], used: &mut usize) {
+    lines::refused(line, used, number, place);
+    lines::text(line, used, b"\n");
+}
+
+// The listing of a file, or the line of its refusal.
+fn list_file(file: &[u8], play: &mut [u8], line: &mut [u8; 65536], used: &mut usize) {
+    let t = netlist::read(file);
+    let reading = t.reading;
+    let z = match reading {
+        Reading::Refused(k, p) => {
+            refused(k, p, line, used);
+            return;
+        }
+        Reading::Taken(z) => z,
+    };
+    let kinds = t.kinds;
+    let counts = t.counts;
+    let nets = t.nets;
+    let mut firsts = [0u16; 1025];
+    let mut order = [0u16; 1024];
+    let mut block = [0u16; 4096];
+    let mut reached = [0u64; 4160];
+    let s = match structure::prepare(
+        z.inputs,
+        z.cells,
+        z.outputs,
+        z.pins,
+        &kinds,
+        &counts,
+        &nets,
+        &mut firsts,
+        &mut order,
+        &mut block,
+        &mut reached,
+    ) {
+        Found::Looped => {
+            refused(9, 0, line, used);
+            return;
+        }
+        Found::TooDeep(y) => {
+            refused(10, y, line, used);
+            return;
+        }
+        Found::Chip(s) => s,
+    };
+    if s.class == 1 {
+        refused(11, s.place, line, used);
+        return;
+    }
+    let mut cone = [0u64; 4096];
+    search::reach_masks(
+        z.inputs,
+        z.cells,
+        z.outputs,
+        &kinds,
+        &counts,
+        &firsts,
+        &nets,
+        &order,
+        &mut cone,
+    );
+    list(
+        z.inputs,
+        z.cells,
+        z.outputs,
+        z.pins,
+        s,
+        &kinds,
+        &counts,
+        &firsts,
+        &nets,
+        &order,
+        &block,
+        &reached,
+        &cone,
+        play,
+        line,
+        used,
+    );
+}
+
+// Writes the listing of a file to standard output.
+fn run(file: &[u8], play: &mut [u8], line: &mut [u8; 65536]) {
+    let mut used = 0;
+    list_file(file, play, line, &mut used);
+    lines::finish(line, used);
+}
+
+fn main() {
+    let mut file = [0u8; 16384];
+    let mut play = [0u8; 16384];
+    let mut line = io::large_buffer();
+    let n = io::read_full(0, &mut file);
+    run(&file[..n], &mut play, &mut line);
+}

@@ -1,0 +1,74 @@
+use Prim.Native.Nat.{_+_, _≤_}
+use mathlib.Core.Path.{refl}
+use native.Mathlib.Omega.{arith}
+use native.Mathlib.Nat.{mul-le-mul}
+use native.Mathlib.Numerals.{add-one}
+use borrow.Author.Needs.{needs}
+use Rattle.chip.specs.Netlist.{Netlist, tabled}
+use Rattle.chip.specs.Search.{SiteReaches}
+use Rattle.levels.specs.Levels.{Mask}
+use Rattle.search.specs.Walk.{Walkable}
+use Rattle.search.proofs.Walking.{ready-few}
+use Rattle.search.proofs.Answering.{walkable, reply-16, reply-15}
+use Rattle.search.proofs.search_even.Statement.{statement}
+use Rattle.search.proofs.search_even.Tie as tie
+
+-- the netlist of the tables, the outputs of the site, and that none of them is too wide
+abbrev chip : tie.Start → Netlist
+chip s = tabled (s .args .i) (s .args .c) (s .args .o) (s .args .kinds .now) (s .args .counts .now) (s .args .nets .now)
+
+mask : (c : tie.After-site-outputs) → Mask (chip (c .before .before) .outs) (c .site-outputs .result) (SiteReaches (chip (c .before .before)) (c .before .before .args .fault .site))
+mask c = let s = c .before .before in c .site-outputs .ensures (chip s) (s .pre .0 .pins) (s .pre .1 .1 .site) (λ p. refl) (s .pre .0 .cones)
+
+narrow : (c : tie.Else1) → Walkable (chip (c .before .before .before .before)) (c .before .before .before .before .args .s) (c .before .before .before .before .args .fault)
+    (c .before .before .site-outputs .result) (c .before .before .before .before .args .reached .now)
+narrow c =
+    let p = c .before .before .before .before .pre in
+    walkable _ _ _ _ _ _ _ _ (p .0) (p .1 .0) _ _ (mask (c .before .before)) _ (c .before .too-wide .ensures) (omega (arith, c .if1 .left))
+
+site-outputs-requires : tie.Need-site-outputs-requires
+site-outputs-requires c κs = omega (arith, c .before .pre .0 .pins, c .before .pre .0 .limits .few-pins)
+
+too-wide-requires : tie.Need-too-wide-requires
+too-wide-requires c κs = (c .before .before .pre .0 .limits .few-outputs, ready-few _ _ _ _ _ _ _ _ (c .before .before .pre .0))
+
+returns : tie.Need-returns
+returns c file x o q =
+    let p = c .before .before .before .before .pre in
+    reply-16 _ _ _ _ _ _ _ _ (p .0) (p .1 .0) _ _ (mask (c .before .before)) (p .1 .1) file x o q _ _ (c .before .too-wide .ensures) (c .if1 .taken)
+
+add-long : tie.Need-add-long
+add-long c = omega (arith, c .before .before .before .before .before .pre .0 .shaped .shallow)
+
+mul-long : tie.Need-mul-long
+mul-long c =
+    let h : c .before .before .before .before .before .args .s .depth + 1 ≤ 256 = omega (arith, c .before .before .before .before .before .pre .0 .shaped .shallow) in
+    omega (arith, mul-le-mul h (c .before .before .before .before .before .pre .0 .limits .few-inputs))
+
+returns-2 : tie.Need-returns-2
+returns-2 c file x o q =
+    let p = c .before .before .before .before .before .before .pre in
+    reply-15 _ _ _ _ _ _ _ _ (p .0) (p .1 .0) _ _ (mask (c .before .before .before .before)) (p .1 .1) file x o q _ (narrow (c .before .before)) (c .if2 .taken)
+
+search-narrow-requires : tie.Need-search-narrow-requires
+search-narrow-requires c κs = (c .before .before .before .before .before .before .before .pre .0, (narrow (c .before .before .before), (c .before .before .before .before .before .before .before .pre .1 .1, rw add-one at (c .before .if2 .left))))
+
+same-length : tie.Need-same-length
+same-length c = search needs
+
+returns-3 : tie.Need-returns-3
+returns-3 c = search needs
+
+pub search-even-spec : {M : Type 1} → statement M
+search-even-spec =
+    tie.close
+    (tie.spec
+    site-outputs-requires
+    too-wide-requires
+    returns
+    add-long
+    mul-long
+    returns-2
+    search-narrow-requires
+    same-length
+    returns-3)

@@ -1,0 +1,47 @@
+use lib.ListN.{getD-replicate}
+use borrow.Author.Needs.{needs}
+use Rattle.transform.proofs.Tables.{answers-9, answers-10, opened-as}
+use Rattle.transform.proofs.transform_tables.Statement.{statement}
+use Rattle.transform.proofs.transform_tables.Tie as tie
+
+prepare-requires : tie.Need-prepare-requires
+prepare-requires c κs = let s = c .before .before .before .before .before in (s .pre .0, (s .pre .1 .0, λ l b. getD-replicate 4160 l 0 0 b))
+
+enum-told : tie.Need-enum-told
+enum-told c = search needs
+
+enum-known-y : tie.Need-enum-known-y
+enum-known-y c = search needs
+
+enum-known-s : tie.Need-enum-known-s
+enum-known-s c = search needs
+
+put-chip-requires : tie.Need-put-chip-requires
+put-chip-requires c κs = search needs
+
+returns : tie.Need-returns
+returns c file reading pads h = answers-9 file _ _ h _ _ _ _ _ _ (c .before .before .prepare .ensures) (c .enum-told .given .1)
+
+returns-2 : tie.Need-returns-2
+returns-2 c file reading pads h = answers-10 file _ _ h _ _ _ _ _ _ _ (c .before .before .before .prepare .ensures) (c .before .y .given .1)
+
+same-length : tie.Need-same-length
+same-length c = search needs
+
+returns-3 : tie.Need-returns-3
+returns-3 c file reading pads h =
+    c .before .before .put-chip .ensures file (opened-as file _ _ h _ _ _ _ _ _ (c .before .before .before .before .before .before .before .before .prepare .ensures) (c .before .before .before .before .before .before .s .given .1))
+
+pub transform-tables-spec : {M : Type 1} → statement M
+transform-tables-spec =
+    tie.close
+    (tie.spec
+    prepare-requires
+    enum-told
+    enum-known-y
+    enum-known-s
+    put-chip-requires
+    returns
+    returns-2
+    same-length
+    returns-3)

@@ -1,0 +1,171 @@
+use borrow.Author.Needs.{needs}
+use Rattle.trials.proofs.try_output.Statement.{statement}
+use Rattle.trials.proofs.try_output.Tie as tie
+use mathlib.Core.Path.{_≡_, refl, sym}
+use native.Mathlib.Omega.{arith}
+use lib.ListN.{length}
+use Rattle.chip.specs.Netlist.{tabled}
+use Rattle.faults.specs.Sources.{hits}
+use Rattle.trials.proofs.Setting.{order-few, first-few, pin-known, pin-decided, runs, tells}
+
+-- the lengths of the lent tables, once they are lent as slices
+abbrev entry : tie.After-try-chunks-arg3 → tie.Start
+entry t = t .before .before .before .before .before .before .before .before .before .before .before .before .before .before .before .before .before .before .before .before .before
+
+sizes : (t : tie.After-try-chunks-arg3) → (length (entry t .args .kinds .now) ≡ 1024) × (length (entry t .args .counts .now) ≡ 1024) × (length (entry t .args .firsts .now) ≡ 1025)
+sizes t = (omega arith, omega arith, omega arith)
+
+slice-aggregate-variables : tie.Need-slice-aggregate-variables
+slice-aggregate-variables c = search needs
+
+variables-requires : tie.Need-variables-requires
+variables-requires c κs = search needs
+
+slice-aggregate-cone-cells : tie.Need-slice-aggregate-cone-cells
+slice-aggregate-cone-cells c = search needs
+
+cone-cells-requires : tie.Need-cone-cells-requires
+cone-cells-requires c κs =
+    let start = c .before .before .before .before in
+    let a = start .args in
+    let s = start .pre in
+    let N = tabled (a .i) (a .c) (a .o) (a .kinds .now) (a .counts .now) (a .nets .now) in (
+      (s .0 .few-cells, omega (arith, s .0 .few-outputs, s .1 .1 .1 .1 .1 .1 .0), refl),
+      (
+        order-few N (s .0) (a .firsts .now) (a .order .now) (s .1 .1 .0) (s .1 .1 .1 .0),
+        first-few N (s .0) (a .firsts .now) (a .order .now) (s .1 .1 .0) (s .1 .1 .1 .0),
+      ),
+    )
+
+slice-aggregate-pin-slots : tie.Need-slice-aggregate-pin-slots
+slice-aggregate-pin-slots c = search needs
+
+pin-slots-requires : tie.Need-pin-slots-requires
+pin-slots-requires c κs =
+    let start = c .before .before .before .before .before .before .before .before in
+    let a = start .args in
+    let s = start .pre in
+    let N = tabled (a .i) (a .c) (a .o) (a .kinds .now) (a .counts .now) (a .nets .now) in
+    let d = s .1 .1 .1 .1 .1 .0 in (
+      (s .0 .few-inputs, omega (arith, s .0 .few-pins, s .1 .0), refl),
+      λ p l. pin-known N (s .0) (a .b) (a .block .now) (d .1 .0) (d .1 .1) (d .0) p (omega (arith, s .1 .0)),
+    )
+
+add-sources : tie.Need-add-sources
+add-sources c = search needs
+
+cast-sources : tie.Need-cast-sources
+cast-sources c = search needs
+
+sources-requires : tie.Need-sources-requires
+sources-requires c κs =
+    let start = c .before .before .before .before .before .before .before .before .before .before .before in
+    omega (arith, start .pre .0 .few-pins, start .pre .1 .0)
+
+slice-aggregate-pin-slots-2 : tie.Need-slice-aggregate-pin-slots-2
+slice-aggregate-pin-slots-2 c = search needs
+
+pin-slots-requires-2 : tie.Need-pin-slots-requires-2
+pin-slots-requires-2 c κs =
+    let decided = c .before .before .before in
+    let start = decided .before .before .before .before .before .before .before .before .before .before .before .before in
+    let a = start .args in
+    let s = start .pre in
+    let N = tabled (a .i) (a .c) (a .o) (a .kinds .now) (a .counts .now) (a .nets .now) in
+    let d = s .1 .1 .1 .1 .1 .0 in (
+      (s .0 .few-inputs, omega (arith, s .0 .few-pins, s .1 .0), refl),
+      λ p l. pin-decided N (s .0) (a .b) (a .block .now) (d .1 .0) (d .1 .1) (d .0) (hits N (a .fault .site) p) p _ (omega (arith, s .1 .0)) (decided .sources .ensures .0 N (sym (s .1 .0)) (λ p. refl) p (omega (arith, s .1 .0))),
+    )
+
+stuck-word-requires : tie.Need-stuck-word-requires
+stuck-word-requires c κs = search needs
+
+array-write-values : tie.Need-array-write-values
+array-write-values c = search needs
+
+slice-aggregate-try-chunks : tie.Need-slice-aggregate-try-chunks
+slice-aggregate-try-chunks c = search needs
+
+slice-aggregate-try-chunks-2 : tie.Need-slice-aggregate-try-chunks-2
+slice-aggregate-try-chunks-2 c = search needs
+
+slice-aggregate-try-chunks-3 : tie.Need-slice-aggregate-try-chunks-3
+slice-aggregate-try-chunks-3 c = search needs
+
+sub-try-chunks : tie.Need-sub-try-chunks
+sub-try-chunks c =
+    let start = c .before .before .before .before .before .before .before .before .before .before .before .before .before .before .before .before .before .before .before .before .before .before .before .before in
+    omega (arith, start .pre .1 .0)
+
+add-try-chunks : tie.Need-add-try-chunks
+add-try-chunks c =
+    let start = c .before .before .before .before .before .before .before .before .before .before .before .before .before .before .before .before .before .before .before .before .before .before .before .before in
+    omega (arith, start .pre .1 .0, start .pre .0 .few-pins, start .pre .1 .1 .1 .1 .1 .1 .0)
+
+slice-aggregate-try-chunks-4 : tie.Need-slice-aggregate-try-chunks-4
+slice-aggregate-try-chunks-4 c = search needs
+
+try-chunks-requires : tie.Need-try-chunks-requires
+try-chunks-requires c κs =
+    let lent = sizes (c .before .before .before .before) in
+    let faulted = c .before .before .before .before .before .before .before .before .before in
+    let decided = faulted .before .before .before .before in
+    let sourced = decided .before .before .before in
+    let picked = sourced .before .before .before .before in
+    let varied = picked .before .before .before in
+    let start = varied .before .before in
+    let a = start .args in
+    let s = start .pre in
+    let N = tabled (a .i) (a .c) (a .o) (a .kinds .now) (a .counts .now) (a .nets .now) in
+    let d = s .1 .1 .1 .1 .1 .0 in
+    let y = s .1 .1 .1 .1 .1 .1 in (
+      (omega (arith, varied .variables .ensures .count, y .1), refl),
+      runs (a .i) (a .c) (a .o) (a .n) (a .z) (a .b) _ _ (a .kinds .now) (a .counts .now) (a .nets .now) (a .firsts .now) (a .order .now) (a .block .now) (a .reached .now) (a .cone .now) _ _ _ _ _
+          (d .1 .0) (a .fault) (s .0) (s .1 .0) (s .1 .1 .0) (s .1 .1 .1 .0) (s .1 .1 .1 .1 .0) (d .1 .1) (y .0) (y .1) (varied .variables .ensures) (picked .cone-cells .ensures) (sourced .pin-slots .ensures)
+          (decided .sources .ensures .0 N (sym (s .1 .0)) (λ p. refl)) (faulted .pin-slots2 .ensures) (lent .0) (lent .1) (lent .2),
+    )
+
+returns : tie.Need-returns
+returns c low D =
+    let lent = sizes (c .before .before .before .before .before .before) in
+    let valued = c .before .before .before .before .before .before .before .before .before in
+    let faulted = valued .before .before in
+    let decided = faulted .before .before .before .before in
+    let sourced = decided .before .before .before in
+    let picked = sourced .before .before .before .before in
+    let varied = picked .before .before .before in
+    let start = varied .before .before in
+    let a = start .args in
+    let s = start .pre in
+    let N = tabled (a .i) (a .c) (a .o) (a .kinds .now) (a .counts .now) (a .nets .now) in
+    let y = s .1 .1 .1 .1 .1 .1 in
+    c .before .try-chunks .ensures N _ _ _ _ (valued .stuck-word .result) (record { long = refl; zeros = refl; stuck = refl })
+    (tells (a .i) (a .c) (a .o) (a .n) (a .z) (a .b) _ _ (a .kinds .now) (a .counts .now) (a .nets .now) (a .firsts .now) (a .order .now) (a .block .now) (a .reached .now) (a .cone .now) _ _ _ _ _
+    low (a .fault) (s .0) (s .1 .0) (s .1 .1 .0) (s .1 .1 .1 .0) (s .1 .1 .1 .1 .0) D (y .0) (y .1) (varied .variables .ensures) (picked .cone-cells .ensures) (sourced .pin-slots .ensures)
+    (decided .sources .ensures .0 N (sym (s .1 .0)) (λ p. refl)) (faulted .pin-slots2 .ensures) (lent .0) (lent .1) (lent .2) (valued .stuck-word .result) (valued .stuck-word .ensures))
+
+pub try-output-spec : {M : Type 1} → statement M
+try-output-spec =
+    tie.close
+    (tie.spec
+    slice-aggregate-variables
+    variables-requires
+    slice-aggregate-cone-cells
+    cone-cells-requires
+    slice-aggregate-pin-slots
+    pin-slots-requires
+    add-sources
+    cast-sources
+    sources-requires
+    slice-aggregate-pin-slots-2
+    pin-slots-requires-2
+    stuck-word-requires
+    array-write-values
+    slice-aggregate-try-chunks
+    slice-aggregate-try-chunks-2
+    slice-aggregate-try-chunks-3
+    sub-try-chunks
+    add-try-chunks
+    slice-aggregate-try-chunks-4
+    try-chunks-requires
+    returns)
