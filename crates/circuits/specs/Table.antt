@@ -1,0 +1,46 @@
+-- 'Small circuits with known results': P1 to P10 as one table of replies. Each call's contract allows one reply, so these are the replies.
+use Prim.Native.Nat.{ℕ, _≤_}
+use mathlib.Core.Path.{_≡_}
+use mathlib.Core.List.{List, [], _∷_, _++_}
+use lib.ListN.{length, drop}
+use Rattle.chip.specs.Faults.{FaultIn}
+use Rattle.chip.specs.declared.Site.the-variants.{Net}
+use Rattle.chip.specs.declared.Fault.{Fault}
+use Rattle.netlist.specs.Got.{got}
+use Rattle.netlist.specs.Format.{Parsed, readOf}
+use Rattle.netlist.specs.Chip.{chipOf}
+use Rattle.structure.specs.Reply.{ClassReply}
+use Rattle.structure.specs.declared.Classed.the-variants.{Class, Refused}
+use Rattle.transform.specs.Reply.{TransformReply}
+use Rattle.transform.specs.declared.Transformed.the-variants.{Written}
+use Rattle.clocks.specs.Reply.{SetReply}
+use Rattle.clocks.specs.declared.Setting.the-variants.{Set}
+use Rattle.checking.specs.Reply.{CheckReply}
+use Rattle.checking.specs.declared.Checked.the-variants.{NotShown}
+use Rattle.search.specs.Reply.{SearchReply}
+use Rattle.search.specs.declared.Searched.the-variants as Searched
+use Rattle.circuits.specs.Circuits.{listing, listingTransformed, straight, neverOne, twoOutputs, buffered, selfFed, empty}
+
+pub record SmallCircuits : Type 0 where
+  -- class 2, depth 1, two blocks
+  pub p1 : ClassReply listing (Class 2 1 2)
+  -- pattern (1, 0) sets clocks 1, 0
+  pub p2 : (entry : List ℕ) → 2 ≤ length entry → SetReply listing 0 (1 ∷ 0 ∷ []) entry (Set 2) (1 ∷ 0 ∷ drop 2 entry)
+  pub p3 : (entry : List ℕ) → 21 ≤ length entry → TransformReply listing entry (Written 21) (listingTransformed ++ drop 21 entry)
+  -- a play of one clock: not seen, for any fault
+  pub p4 : (fault : Fault) (x : Parsed) → readOf listing ≡ got x → FaultIn (chipOf x) fault → (b : ℕ) → b ≤ 1 → CheckReply listing fault (b ∷ []) NotShown
+  -- class 3, depth 0; n0/0 is shown by play 1, tries 2
+  pub p5 : ClassReply straight (Class 3 0 1)
+  pub p5-search : (entry : List ℕ) → 1 ≤ length entry → SearchReply straight (record { site = Net 0; stuck = 0 }) entry (Searched.Found 0 1 2) (1 ∷ drop 1 entry)
+  -- one block, class 3; the AND's net stuck at 0 is untestable after 2 tries
+  pub p6 : ClassReply neverOne (Class 3 0 1)
+  pub p6-search : (entry : List ℕ) → 1 ≤ length entry → SearchReply neverOne (record { site = Net 2; stuck = 0 }) entry (Searched.Untestable 2) entry
+  -- class 3, two blocks
+  pub p7 : ClassReply twoOutputs (Class 3 1 2)
+  -- class 1; the search is refused by 11 at 0
+  pub p8 : ClassReply buffered (Class 1 1 1)
+  pub p8-search : (fault : Fault) (x : Parsed) → readOf buffered ≡ got x → FaultIn (chipOf x) fault → (entry : List ℕ) → SearchReply buffered fault entry (Searched.Refused 11 0) entry
+  -- 9
+  pub p9 : ClassReply selfFed (Refused 9 0)
+  -- 1 at 0
+  pub p10 : ClassReply empty (Refused 1 0)
