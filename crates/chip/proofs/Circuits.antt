@@ -6,10 +6,9 @@ use mathlib.Core.Bool.{Bool, true, false, _&&_}
 use mathlib.Core.List.{List, [], _∷_, _++_}
 use lib.ListN.{getD, length}
 use lib.Dec.{T}
-use native.Mathlib.Omega.{arith}
 use native.Mathlib.Decide.{ℕ-discrete, decLe, decLt}
 use Rattle.chip.specs.Netlist.{Netlist, Sound, tabled, gate, isFlop, bit}
-use Rattle.chip.specs.Class.{LoopFree, direct, blocks}
+use Rattle.chip.specs.Class.{blocks}
 use Rattle.chip.specs.Transformed.{openedNet, flat}
 use Rattle.chip.specs.Faults.{oldNet}
 use Rattle.chip.specs.Search.{pattern}
@@ -60,25 +59,6 @@ report N rank s r site v =
     ] in
     d ∷ has-class N S R d (D .within) l L .0 ∷ blocks N l .count ∷ rest
 
--- P5 to P8
-results : List (List ℕ)
-unfolding soundTest rankTest every
-results =
-    report (chip 1 [] [] (0 ∷ []) 1) (0 ∷ []) tt tt (Net 0) 0
-    ∷ report (chip 1 (1 ∷ 2 ∷ []) (1 ∷ 2 ∷ []) (0 ∷ 0 ∷ 1 ∷ 2 ∷ []) 1) (0 ∷ 1 ∷ 2 ∷ []) tt tt (Net 2) 0
-    ∷ report (chip 1 (8 ∷ []) (1 ∷ []) (0 ∷ 1 ∷ 0 ∷ []) 2) (0 ∷ 1 ∷ []) tt tt (Pin 2) 1
-    ∷ report (chip 1 (0 ∷ 8 ∷ 6 ∷ []) (1 ∷ 1 ∷ 2 ∷ []) (0 ∷ 1 ∷ 1 ∷ 2 ∷ 3 ∷ []) 1) (0 ∷ 1 ∷ 2 ∷ 3 ∷ []) tt tt (Net 0) 0
-    ∷ []
-
-results-are : results
-    ≡ (0 ∷ 3 ∷ 1 ∷ 1 ∷ 0 ∷ 2 ∷ 1 ∷ [])
-    ∷ (0 ∷ 3 ∷ 1 ∷ 2 ∷ 2 ∷ [])
-    ∷ (1 ∷ 3 ∷ 2 ∷ 1 ∷ 1 ∷ 1 ∷ 0 ∷ 0 ∷ [])
-    ∷ (1 ∷ 1 ∷ 1 ∷ 11 ∷ 0 ∷ [])
-    ∷ []
-unfolding report tab has-depth deepest at At has-lowest decPair all along join relabel pick Pair has-class class-or-place decClass3 lowest-uneven decUneven decNot Uneven Alike alike first-hit rankTest-right reaches decReach find dec-and dec-or decPin map-dec decLe decLt ℕ-discrete isFlop decAt decBlock decPlace isYes decPinAt decSite test outTable relTable answered walked decOutput decTried decShown rounds value now made transformed-ranked newRank openedNet flat oldNet blocks gate setting putAt results
-results-are = refl
-
 -- P1 and the whole listing
 line : Site → ℕ → List ℕ
 unfolding soundTest rankTest every
@@ -97,7 +77,3 @@ listing : rows (Net 0 ∷ Net 1 ∷ Net 2 ∷ Pin 0 ∷ Pin 1 ∷ Pin 2 ∷ Pin 
     ∷ by 2 1 0 ∷ by 1 0 0 ∷ by 3 0 1 ∷ by 1 0 0 ∷ by 2 1 0 ∷ by 1 0 0 ∷ by 2 1 0 ∷ by 1 0 0 ∷ []
 unfolding report tab has-depth deepest at At has-lowest decPair all along join relabel pick Pair has-class class-or-place decClass3 lowest-uneven decUneven decNot Uneven Alike alike first-hit rankTest-right reaches decReach find dec-and dec-or decPin map-dec decLe decLt ℕ-discrete isFlop decAt decBlock decPlace isYes decPinAt decSite test outTable relTable answered walked decOutput decTried decShown rounds value now made transformed-ranked newRank openedNet flat oldNet blocks gate setting putAt line rows
 listing = refl
-
--- P9: a flip-flop that feeds itself
-self-fed : ¬ LoopFree (chip 1 (8 ∷ []) (1 ∷ []) (1 ∷ 1 ∷ []) 1)
-self-fed free = free 1 (direct {j = 0} {p = 0} (record { cell = omega arith; from = omega arith; to = omega arith }))

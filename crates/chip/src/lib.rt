@@ -1,6 +1,6 @@
-// The words of the netlist that the other crates share: a fault, the pins that a kind takes, and what a cell shows.
+// The words of the netlist that the other crates share: a fault, and the pins that a kind takes.
 ghost use mathlib.Core.Path.{_≡_};
-ghost use Rattle.chip.specs.Netlist.{takes, gate};
+ghost use Rattle.chip.specs.Netlist.{takes};
 
 // Where a fault is: a net or a pin, by its number.
 pub enum Site {
@@ -26,21 +26,6 @@ pub fn pins_allowed(kind: usize, pins: usize) -> bool
             pins <= 8
         }
         _ => pins == 1,
-    }
-}
-
-// What a cell of a kind shows with that many pins, of which so many are one; false for a kind that there is not.
-pub fn gate_value(kind: u8, pins: usize, ones: usize) -> bool
-    ensures { λ r. ⌜ r ≡ gate kind pins ones ⌝ }
-{
-    match kind {
-        0 | 3 | 8 => 0 < ones,
-        1 | 5 | 9 => !(0 < ones),
-        2 => ones == pins,
-        4 => !(ones == pins),
-        6 => ones % 2 == 1,
-        7 => !(ones % 2 == 1),
-        10..=255 => false,
     }
 }
 

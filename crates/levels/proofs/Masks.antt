@@ -4,7 +4,6 @@ use mathlib.Core.Path.{_≡_, refl, sym, _∙_}
 use mathlib.Core.Logic.{_⊎_, inl, inr, _≢_}
 use mathlib.Core.Bool.{Bool, true, false, _||_, false≢true}
 use mathlib.Core.List.{List}
-use native.Mathlib.Numerals.{add-one}
 use native.Mathlib.Omega.{arith}
 use native.Mathlib.Decide.{decLt}
 use borrow.Author.Tests.{eqb-true, eqb-false, ne-eqb}
@@ -16,7 +15,7 @@ use Rattle.chip.specs.Search.{digit}
 use Rattle.words.specs.Bits.{LowestBit}
 use Rattle.words.proofs.Bits.{digit-zero, digit-one, digit-or, word-zero}
 use Rattle.words.proofs.Lowest.{lowest}
-use Rattle.levels.specs.Levels.{Mask, MasksBefore, LevelMasks}
+use Rattle.levels.specs.Levels.{Mask, MasksBefore}
 
 clash : {b : Bool} {A : Type 0} → b ≡ true → b ≡ false → A
 clash t f = absurd (false≢true (sym f ∙ t))
@@ -72,6 +71,3 @@ mask-some {o} {w} m n h = let (l, p, _) = mask-lowest m (lowest w) n h in (trail
 
 pub first-before : (N : Netlist) (t : List ℕ) → ((n : ℕ) → n < N .inputs + N .cells → getD t n 0 ≡ 0) → MasksBefore N 0 t
 first-before N t zeros n l = rw (zeros n l) (mask-zero (λ z l b. b))
-
-pub next-before : {N : Netlist} {e : ℕ} {pins reached : List ℕ} → LevelMasks N e pins reached → MasksBefore N (e + 1) reached
-next-before {e = e} m = rw (add-one e) (m .nets)

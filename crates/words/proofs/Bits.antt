@@ -120,9 +120,6 @@ not-turns w h =
     let masked : bitAnd w (2 ^ 64 - 1) ≡ w = and-mask w 64 ∙ mod-eq-of-lt h in
     omega (arith, xor-add-and w (2 ^ 64 - 1))
 
-pub digit-not : (w k : ℕ) → w < 2 ^ 64 → k < 64 → digit k (2 ^ 64 - 1 - w) ≡ not (digit k w)
-digit-not w k h l = ap (digit k) (not-turns w h) ∙ digit-turned w k l
-
 -- ---- the bits settle the word
 
 pub same-word : (n a b : ℕ) → a < 2 ^ n → b < 2 ^ n → ((k : ℕ) → k < n → digit k a ≡ digit k b) → a ≡ b
