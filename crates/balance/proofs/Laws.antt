@@ -3,7 +3,7 @@ use Prim.Native.Nat.{ℕ, zero, suc, _+_, _^_, _≤_, _<_}
 use native.Mathlib.Nat.{pow-suc}
 use mathlib.Core.Path.{_≡_, refl, sym, ap, _∙_}
 use mathlib.Core.Logic.{_⊎_, inl, inr, _≢_}
-use mathlib.Core.Bool.{Bool, true, false, _&&_, false≢true, Bool-discrete}
+use mathlib.Core.Bool.{Bool, true, false, false≢true, Bool-discrete}
 use mathlib.Core.List.{List}
 use native.Mathlib.Omega.{arith}
 use native.Mathlib.Decide.{ℕ-discrete, decLt}
@@ -13,6 +13,7 @@ use lib.Bits.{bitOr, bitAnd}
 use Rattle.chip.specs.Netlist.{Netlist, allPins}
 use Rattle.chip.specs.Class.{Reach, Branch}
 use Rattle.chip.specs.Search.{digit}
+use Rattle.chip.proofs.Bools.{fails, both-true}
 use Rattle.chip.proofs.Basics.{reach-out}
 use Rattle.chip.proofs.Decide.{find}
 use Rattle.words.proofs.Bits.{digit-and, digit-zero, same-word}
@@ -90,10 +91,6 @@ module _ (N : Netlist) (labels : List ℕ) (e : ℕ) where
       (m .masks l b)
 
 -- two words with a common bit, and two without
-and-true : (a b : Bool) → (a && b) ≡ true → (a ≡ true) × (b ≡ true)
-and-true true b e = (refl, e)
-and-true false b e = absurd (false≢true e)
-
 lt-pow : (n : ℕ) → n < 2 ^ n
 lt-pow zero = omega arith
 lt-pow (suc n) = omega (arith, lt-pow n, pow-suc 2 n)
@@ -103,16 +100,12 @@ bit-of w g = elim (find (λ z. digit z w ≡ true) w (λ z _. Bool-discrete (dig
   | yes s ↦ (s .0, s .2)
   | no n ↦ absurd (g (same-word w w 0 (lt-pow w) (omega (arith, lt-pow w)) (λ k l. fails (digit k w) (λ e. n (k, l, e)) ∙ sym (digit-zero k))))
 ]
-  where
-    fails : (b : Bool) → (b ≡ true → ⊥) → b ≡ false
-    fails true f = absurd (f refl)
-    fails false f = refl
 
 module _ (o a b : ℕ) (P Q : ℕ → Type 0) (m : Mask o a P) (k : Mask o b Q) where
   pub met : bitAnd a b ≢ 0 → (z : ℕ) × P z × Q z
   met g =
       let (z, e) = bit-of (bitAnd a b) g in
-      let (x, y) = and-true (digit z a) (digit z b) (sym (digit-and a b z) ∙ e) in
+      let (x, y) = both-true (digit z a) (digit z b) (sym (digit-and a b z) ∙ e) in
       elim (decLt z o) [
         | yes l ↦ (z, m .set z l x, k .set z l y)
         | no h ↦ absurd (false≢true (sym (m .high z (omega arith)) ∙ x))

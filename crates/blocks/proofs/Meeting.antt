@@ -1,5 +1,5 @@
 -- The laws of the walk over the pairs of a pin and an output, at one depth.
-use Prim.Native.Nat.{ℕ, zero, suc, _+_, _*_, _≤_, _<_, min, max}
+use Prim.Native.Nat.{ℕ, _+_, _*_, _≤_, _<_, min, max}
 use mathlib.Core.Path.{_≡_, refl, sym, ap, _∙_}
 use mathlib.Core.Bool.{true, false}
 use mathlib.Core.List.{List}
@@ -8,8 +8,9 @@ use native.Mathlib.Decide.{decLt, ℕ-discrete}
 use lib.ListN.{length, getD, set, replicate}
 use lib.Seq.{getD-set-same, getD-set-other}
 use Rattle.chip.specs.Netlist.{Netlist, InLimits, allPins}
-use Rattle.chip.specs.Class.{Reach, here, on, Branch}
+use Rattle.chip.specs.Class.{Reach, Branch}
 use Rattle.chip.specs.Search.{digit}
+use Rattle.chip.proofs.Basics.{zero-at, reach-out}
 use Rattle.levels.specs.Levels.{Mask}
 use Rattle.words.proofs.Bits.{digit-zero}
 use Rattle.blocks.specs.Labels.{labelOf, Labels, LevelJoined}
@@ -39,10 +40,6 @@ meeting-past N e first k k′ owners low M none =
         | no g ↦ absurd (none x y q o (omega arith) h b r)
       ];
     }
-
-reach-out : (N : Netlist) {z p e : ℕ} → Reach N z p e → z < N .outs
-reach-out N (here h) = h
-reach-out N (on _ _ r) = reach-out N r
 
 -- branches that share an owner share a label
 pub meeting-all : (N : Netlist) (e : ℕ) (first : ℕ → ℕ) (owners low : List ℕ) → InLimits N → Meeting N e first (64 * allPins N) owners low
@@ -179,14 +176,9 @@ module _ (x o p word z : ℕ) (owners₀ low₀ owners low : List ℕ) (J : PinJ
 
 -- ---- `join_level`
 
-no-owners : (n k : ℕ) → _≡_ {A = ℕ} (getD (replicate n 0) k 0) 0
-no-owners zero k = refl
-no-owners (suc n) zero = refl
-no-owners (suc n) (suc k) = no-owners n k
-
 pub meeting-start : (N : Netlist) (e : ℕ) (low : List ℕ) → Labels N (labelOf N low)
     → Owners (replicate 4096 0) × Meeting N e (labelOf N low) (64 * 0) (replicate 4096 0) low
-meeting-start N e low L = ((λ k. omega (arith, no-owners 4096 k)), meeting-none N e (replicate 4096 0) low L (no-owners 4096))
+meeting-start N e low L = ((λ k. omega (arith, zero-at 4096 k)), meeting-none N e (replicate 4096 0) low L (zero-at 4096))
 
 module _ (N : Netlist) (e : ℕ) (first : ℕ → ℕ) (p : ℕ) (owners low : List ℕ) (lim : InLimits N) (M : Meeting N e first (64 * p) owners low) where
   -- pin p, a branch of input x, is joined at all its outputs

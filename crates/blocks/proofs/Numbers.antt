@@ -14,8 +14,8 @@ use lib.ListN.{length, getD, set, length-set}
 use lib.Seq.{getD-set-same, getD-set-other}
 use Rattle.chip.specs.Netlist.{Netlist, allPins, sumBelow, bit}
 use Rattle.chip.specs.Class.{Branch, Together, same, Lowest, tally, leads, blocksOf, blocks}
-use Rattle.chip.proofs.Basics.{bit-low}
-use Rattle.chip.proofs.Blocks.{right, low-same}
+use Rattle.chip.proofs.Bools.{bit-low}
+use Rattle.chip.proofs.Blocks.{tally-most, right, low-same}
 use Rattle.blocks.specs.Labels.{labelOf, Numbered}
 use Rattle.blocks.specs.Steps.{InputNumbered}
 use Rattle.blocks.proofs.Labels.{label-in}
@@ -187,10 +187,6 @@ unfolding blocks
 counted-all N low table count C = record { count-is = C .count-is; block-is = λ x p b. C .block-is x p (b .input) b }
 
 -- ---- there are no more blocks than pins and inputs
-
-tally-most : (s : ℕ → Bool) (n : ℕ) → tally s n ≤ n
-tally-most s zero = omega arith
-tally-most s (suc n) = omega (arith, tally-most s n, bit-low (s n))
 
 -- the pins of the nets below x
 before-net : Netlist → ℕ → ℕ → Bool

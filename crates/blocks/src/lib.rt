@@ -2,7 +2,8 @@
 ghost use mathlib.Core.Path.{_≡_};
 ghost use Prim.Native.Nat.{ℕ, _≤_, _<_, min, max};
 ghost use lib.ListN.{getD};
-ghost use Rattle.chip.specs.Netlist.{Netlist, tabled, allPins, InLimits};
+ghost use Rattle.chip.specs.Netlist.{Netlist, allPins, InLimits};
+ghost use Rattle.chip.specs.Inner.Tables.{tabled};
 ghost use Rattle.chip.specs.Class.{Lowest};
 ghost use Rattle.levels.specs.Levels.{PinMasks};
 ghost use Rattle.blocks.specs.Labels.{labelOf, Labels, LevelJoined, Numbered};

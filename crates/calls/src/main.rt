@@ -1,113 +1,80 @@
 // Answers the calls that stand on standard input, with a line for each on standard output.
-ghost use Prim.Native.Nat.{_≤_};
-use input::Byte;
-use input::Number;
+mod asked;
+mod replies;
 
-mod faulting;
-mod input;
-mod lending;
-mod naming;
-mod reading;
-
-// What follows the netlist file of a call, and its line. Answers whether another call may follow.
-fn after_file(
+// A call from its netlist file on. Answers whether another may follow: none does after a call that cannot be read.
+fn call(
     code: u8,
+    begun: bool,
     file: &[u8],
-    ready: &mut [u8; 65536],
-    at: &mut usize,
-    end: &mut usize,
     text: &mut [u8],
     lent: &mut [u8],
     line: &mut [u8; 65536],
     used: &mut usize,
-) -> bool
-    requires { ⌜ now end ≤ 65536 ⌝ }
-    ensures { λ _. ⌜ now (end .exit) ≤ 65536 ⌝ }
-{
-    match code {
-        0 => {
-            reading::read(file, line, used);
-            true
-        }
-        1 => {
-            naming::class(file, line, used);
-            true
-        }
-        2 => lending::transform_call(file, ready, at, end, lent, line, used),
-        3 => lending::set_call(file, ready, at, end, text, lent, line, used),
-        4 => lending::read_call(file, ready, at, end, text, lent, line, used),
-        _ => faulting::call(code, file, ready, at, end, text, lent, line, used),
+) -> bool {
+    let mut good = begun;
+    let z = asked::output(code, &mut good);
+    let fault = asked::fault(code, &mut good);
+    let n = asked::values(code, &mut good, text);
+    let clock = asked::clock(code, &mut good);
+    let room = asked::buffer(code, &mut good, lent);
+    if !good {
+        lines::text(line, used, b"bad call\n");
+        return false;
     }
+    replies::reply(
+        code,
+        file,
+        z,
+        fault,
+        &text[..n],
+        clock,
+        &mut lent[..room],
+        line,
+        used,
+    );
+    lines::text(line, used, b"\n");
+    true
 }
 
-// A call from its netlist file on.
-fn with_file(
-    code: u8,
-    ready: &mut [u8; 65536],
-    at: &mut usize,
-    end: &mut usize,
+// One call: its code, its fields and its line. Answers whether another may follow.
+fn answer(
     file: &mut [u8],
     text: &mut [u8],
     lent: &mut [u8],
     line: &mut [u8; 65536],
     used: &mut usize,
-) -> bool
-    requires { ⌜ now end ≤ 65536 ⌝ }
-    ensures { λ _. ⌜ now (end .exit) ≤ 65536 ⌝ }
-{
-    match input::next_string(ready, at, end, file) {
-        Number::Bad => lines::bad_call(line, used),
-        Number::Is(n) => after_file(code, &file[..n], ready, at, end, text, lent, line, used),
+) -> bool {
+    let mut code = [0u8; 1];
+    if io::read_full(0, &mut code) == 0 {
+        return false;
     }
-}
-
-// One call: its code, its fields and its line. Answers whether another may follow.
-fn answer(
-    ready: &mut [u8; 65536],
-    at: &mut usize,
-    end: &mut usize,
-    file: &mut [u8; 65536],
-    text: &mut [u8; 65536],
-    lent: &mut [u8; 65536],
-    line: &mut [u8; 65536],
-    used: &mut usize,
-) -> bool
-    requires { ⌜ now end ≤ 65536 ⌝ }
-    ensures { λ _. ⌜ now (end .exit) ≤ 65536 ⌝ }
-{
-    match input::next_byte(ready, at, end) {
-        Byte::End => false,
-        Byte::Is(code) => match code {
-            0..=6 => with_file(code, ready, at, end, file, text, lent, line, used),
-            _ => lines::bad_call(line, used),
-        },
-    }
+    let k = code[0];
+    let mut good = k < 7;
+    let n = asked::string(&mut good, file);
+    call(k, good, &file[..n], text, lent, line, used)
 }
 
 // A proved loop has to end, and nothing says that the input does: the calls are counted down from a number that no
 // run uses up.
 fn run(
-    ready: &mut [u8; 65536],
     file: &mut [u8; 65536],
     text: &mut [u8; 65536],
     lent: &mut [u8; 65536],
     line: &mut [u8; 65536],
 ) {
-    let mut at = 0;
-    let mut end = 0;
     let mut used = 0;
     let mut turns = u64::MAX;
-    while turns > 0 && answer(ready, &mut at, &mut end, file, text, lent, line, &mut used) {
+    while turns > 0 && answer(file, text, lent, line, &mut used) {
         turns -= 1;
     }
-    lines::finish(line, used);
+    lines::finish(line, &mut used);
 }
 
 fn main() {
-    let mut ready = io::large_buffer();
     let mut file = io::large_buffer();
     let mut text = io::large_buffer();
     let mut lent = io::large_buffer();
     let mut line = io::large_buffer();
-    run(&mut ready, &mut file, &mut text, &mut lent, &mut line);
+    run(&mut file, &mut text, &mut lent, &mut line);
 }

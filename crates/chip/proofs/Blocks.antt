@@ -1,15 +1,14 @@
 -- In class 2 or 3 the blocks have what the theorems ask.
-use Prim.Native.Nat.{ℕ, zero, suc, _+_, _-_, _≤_, _<_, max}
-use mathlib.Core.Path.{_≡_, refl, sym, ap, _∙_, subst}
-use mathlib.Core.Logic.{_⊎_, inl, inr}
-use mathlib.Core.Bool.{Bool, true, false, cond, _&&_}
+use Prim.Native.Nat.{ℕ, zero, suc, _+_, _≤_, _<_}
+use mathlib.Core.Path.{_≡_, refl, sym, ap, _∙_}
+use mathlib.Core.Bool.{Bool, true}
 use native.Mathlib.Omega.{arith}
 use native.Mathlib.Decide.{decLe, decLt, ℕ-discrete}
 use borrow.Author.Tests.{eq-eqb, le-leb, lt-leb}
-use lib.Dec.{eqb, leb}
 use Rattle.chip.specs.Netlist.{Netlist, sumBelow, allPins, bit}
-use Rattle.chip.specs.Class.{Reach, Within, Blocks, Branch, Joined, Together, same, next, Class3, Class23, Lowest, tally, leads, blocksOf, ownerOf, blocks}
-use Rattle.chip.proofs.Basics.{sum-up, reach-in}
+use Rattle.chip.specs.Class.{Branch, Together, same, next, Class23, Lowest, tally, leads, blocksOf, ownerOf, blocks}
+use Rattle.chip.proofs.Bools.{bit-low}
+use Rattle.chip.proofs.Basics.{Counted, sum-up, reach-in}
 use Rattle.chip.proofs.LookBack.{Balanced}
 
 -- counting
@@ -19,6 +18,10 @@ tally-up s m (suc n) h = elim (decLe m n) [
   | yes l ↦ omega (arith, tally-up s m n l)
   | no g ↦ let e : m ≡ suc n = omega arith in rw e (omega arith)
 ]
+
+pub tally-most : (s : ℕ → Bool) (n : ℕ) → tally s n ≤ n
+tally-most s zero = omega arith
+tally-most s (suc n) = omega (arith, tally-most s n, bit-low (s n))
 
 pub tally-past : (s : ℕ → Bool) (m n : ℕ) → m < n → s m ≡ true → tally s m < tally s n
 tally-past s m n h e = let l : tally s m + bit (s m) ≤ tally s n = tally-up s (suc m) n h in omega (arith, rw e at l)
@@ -89,7 +92,7 @@ module _ (N : Netlist) (low : ℕ → ℕ) (L : Lowest N low) where
   pub branch : (p : ℕ) → p < allPins N → N .net p < N .inputs → Branch N (N .net p) p
   branch p h i = record { pin = h; names = refl; input = i }
 
-  pub counted : (p : ℕ) → p < allPins N → N .net p < N .inputs → blocks N low .block p < blocks N low .count
+  pub counted : Counted N (blocks N low)
   unfolding blocks
   counted p h i =
       let up : sumBelow (blocksOf N low) (suc (N .net p)) ≤ sumBelow (blocksOf N low) (N .inputs) = sum-up (blocksOf N low) (suc (N .net p)) (N .inputs) i in

@@ -1,13 +1,14 @@
 -- Small circuits with known results, worked out from the definitions by computing.
-use Prim.Native.Nat.{ℕ, zero, suc, _+_, _-_, _≤_, _<_}
+use Prim.Native.Nat.{ℕ, zero, suc}
 use mathlib.Core.Path.{_≡_, refl}
 use mathlib.Core.Logic.{inl, inr}
-use mathlib.Core.Bool.{Bool, true, false, _&&_}
+use mathlib.Core.Bool.{Bool}
 use mathlib.Core.List.{List, [], _∷_, _++_}
 use lib.ListN.{getD, length}
 use lib.Dec.{T}
 use native.Mathlib.Decide.{ℕ-discrete, decLe, decLt}
-use Rattle.chip.specs.Netlist.{Netlist, Sound, tabled, gate, isFlop, bit}
+use Rattle.chip.specs.Netlist.{Netlist, Sound, gate, isFlop, bit}
+use Rattle.chip.specs.Inner.Tables.{tabled}
 use Rattle.chip.specs.Class.{blocks}
 use Rattle.chip.specs.Transformed.{openedNet, flat}
 use Rattle.chip.specs.Faults.{oldNet}

@@ -1,13 +1,13 @@
 -- The class is decided, and where it is 1 there is a lowest input with a block of two depths to one output.
-use Prim.Native.Nat.{ℕ, zero, suc, _+_, _-_, _≤_, _<_}
-use mathlib.Core.Path.{_≡_, refl, sym, ap, _∙_, subst}
+use Prim.Native.Nat.{ℕ, suc, _<_}
+use mathlib.Core.Path.{_≡_, refl}
 use mathlib.Core.Logic.{_⊎_, inl, inr, _≢_}
 use native.Mathlib.Omega.{arith}
-use native.Mathlib.Decide.{decLe, decLt, ℕ-discrete}
+use native.Mathlib.Decide.{ℕ-discrete}
 use Rattle.chip.specs.Netlist.{Netlist, Sound, allPins}
-use Rattle.chip.specs.Class.{Reach, Within, Branch, Together, same, Lowest, Class3, Class23, TwoDepths, ClassIs}
+use Rattle.chip.specs.Class.{Reach, Within, Branch, Lowest, Class3, Class23, TwoDepths, ClassIs}
 use Rattle.chip.proofs.Basics.{Ranked, reach-in, reach-out}
-use Rattle.chip.proofs.Decide.{map-dec, dec-and, find, first-hit, reaches}
+use Rattle.chip.proofs.Decide.{dec-and, find, first-hit, reaches}
 use Rattle.chip.proofs.Blocks.{glue, turn, left, right, low-same}
 
 -- two branches of an input reach one output with two depths; P says which pairs of branches count

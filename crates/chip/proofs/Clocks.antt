@@ -5,7 +5,7 @@ use mathlib.Core.Bool.{Bool, false}
 use native.Mathlib.Omega.{arith}
 use native.Mathlib.Decide.{decLe, decLt, ℕ-discrete}
 use Rattle.chip.specs.Netlist.{Netlist, Sound, allPins}
-use Rattle.chip.specs.Class.{Reach, Within, Branch, Blocks}
+use Rattle.chip.specs.Class.{Reach, Within, Blocks}
 use Rattle.chip.specs.Clocks.{BlockAt, BlockReaches, SetPlace, Sets, Reads}
 use Rattle.chip.proofs.Basics.{Ranked, reach-in}
 use Rattle.chip.proofs.LookBack.{Balanced, Agree}

@@ -5,12 +5,11 @@ use mathlib.Core.Logic.{_↔_}
 use mathlib.Core.Bool.{Bool, false, cond}
 use native.Mathlib.Omega.{arith}
 use native.Mathlib.Nat.{sub-zero}
-use borrow.Author.Tests.{le-ltb, le-leb}
-use lib.Dec.{ltb, leb}
+use borrow.Author.Tests.{le-ltb}
+use lib.Dec.{ltb}
 use Rattle.chip.specs.Netlist.{Netlist, Sound, outPin}
 use Rattle.chip.specs.Class.{Reach, Within, Blocks}
 use Rattle.chip.specs.Faults.{Lines, Run, Shown, good, sees}
-use Rattle.chip.specs.Clocks.{Sets}
 use Rattle.chip.specs.Demand.{PatternShows}
 use Rattle.chip.proofs.Basics.{Ranked}
 use Rattle.chip.proofs.LookBack.{Back, run-back, Balanced, Agree}

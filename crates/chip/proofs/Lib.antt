@@ -1,3 +1,4 @@
+pub mod Bools
 pub mod Basics
 pub mod LookBack
 pub mod Runs

@@ -1,23 +1,20 @@
 -- In a run from clock d on, each net that reaches an output shows what the transformed circuit shows.
 use Prim.Native.Nat.{ℕ, zero, suc, _+_, _-_, _≤_, _<_}
-use mathlib.Core.Path.{_≡_, refl, sym, ap, _∙_, subst}
-use mathlib.Core.Logic.{_⊎_, inl, inr}
-use mathlib.Core.Bool.{Bool, true, false, cond}
+use mathlib.Core.Path.{_≡_, refl, sym, ap, _∙_}
+use mathlib.Core.Logic.{inl, inr}
+use mathlib.Core.Bool.{Bool, true, false}
 use native.Mathlib.Omega.{arith}
-use native.Mathlib.Decide.{decLt, decLe}
 use native.Mathlib.Nat.{sub-zero, suc-sub-suc, not-suc-le-zero}
-use borrow.Author.Tests.{lt-ltb, le-ltb, eqb-true, eqb-false}
-use lib.Dec.{eqb, ltb}
-use Rattle.chip.specs.Netlist.{Netlist, Sound, PinOf, allPins, sumBelow, bit, gate, isFlop, outPin}
-use Rattle.chip.specs.Class.{Reach, Within, delay, here, on, Blocks}
-use Rattle.chip.specs.Transformed.{transformed, openedNet, flat}
+use Rattle.chip.specs.Netlist.{Netlist, Sound, PinOf, allPins, sumBelow, gate, isFlop}
+use Rattle.chip.specs.Class.{Reach, Within, delay, on, Blocks}
+use Rattle.chip.specs.Transformed.{transformed, openedNet}
 use Rattle.chip.specs.Faults.{Lines, Run, ones, sees, makes, transformedLines, oldNet}
-use Rattle.chip.proofs.Basics.{ones-same, gate-flat, flat-comb, net-input, net-cell, old-block, old-cell, net-cases, Ranked, sum-up, pin-in, pin-named, reach-in, first-pin}
+use Rattle.chip.proofs.Basics.{ones-same, gate-flat, flat-comb, Counted, net-input, net-cell, old-block, old-cell, net-cases, Ranked, pin-named, reach-in, first-pin}
 
 -- what the blocks of a netlist of class 2 or 3 have
 pub record Balanced (N : Netlist) (B : Blocks) : Type 0 where
   -- each branch is in a block, of its own input
-  pub counted : (p : ℕ) → p < allPins N → N .net p < N .inputs → B .block p < B .count
+  pub counted : Counted N B
   pub own : (p : ℕ) → p < allPins N → N .net p < N .inputs → B .input (B .block p) ≡ N .net p
   -- a block reaches an output with one depth
   pub one : (z p q e e′ : ℕ) → N .net p < N .inputs → N .net q < N .inputs → B .block p ≡ B .block q → Reach N z p e → Reach N z q e′ → e ≡ e′

@@ -1,9 +1,9 @@
 -- A netlist with no loop has an order of its nets in which each cell comes after what its pins name.
-use Prim.Native.Nat.{ℕ, zero, suc, _+_, _-_, _≤_, _<_}
-use mathlib.Core.Path.{_≡_, refl, sym, ap, _∙_, subst}
+use Prim.Native.Nat.{ℕ, zero, suc, _+_, _≤_, _<_}
+use mathlib.Core.Path.{_≡_, refl, sym, subst}
 use mathlib.Core.Logic.{_⊎_, inl, inr, _≢_}
 use native.Mathlib.Omega.{arith}
-use native.Mathlib.Decide.{decLe, decLt, ℕ-discrete}
+use native.Mathlib.Decide.{decLe, ℕ-discrete}
 use Rattle.chip.specs.Netlist.{Netlist, PinOf, allPins}
 use Rattle.chip.specs.Class.{Feeds, direct, via, LoopFree}
 use Rattle.chip.proofs.Basics.{Ranked, pin-in}

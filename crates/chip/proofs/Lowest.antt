@@ -1,11 +1,11 @@
 -- Each block has a lowest pin: starting from single pins, blocks are joined pair by pair.
-use Prim.Native.Nat.{ℕ, zero, suc, _+_, _-_, _≤_, _<_}
-use mathlib.Core.Path.{_≡_, refl, sym, ap, _∙_, subst}
+use Prim.Native.Nat.{ℕ, zero, suc, _≤_, _<_}
+use mathlib.Core.Path.{_≡_, refl, sym, ap, _∙_}
 use native.Mathlib.Omega.{arith}
 use native.Mathlib.Decide.{decLe, decLt, ℕ-discrete}
 use Rattle.chip.specs.Netlist.{Netlist, Sound, allPins}
-use Rattle.chip.specs.Class.{Reach, Within, Branch, Joined, Together, same, next, Lowest, Depth}
-use Rattle.chip.proofs.Basics.{Ranked, reach-in, reach-out}
+use Rattle.chip.specs.Class.{Branch, Joined, Together, same, next, Lowest}
+use Rattle.chip.proofs.Basics.{Ranked, reach-out}
 use Rattle.chip.proofs.Decide.{map-dec, dec-and, find, reaches}
 use Rattle.chip.proofs.Loops.{pick}
 use Rattle.chip.proofs.Blocks.{glue, turn, left, right}

@@ -1,20 +1,20 @@
 -- The two steps of the transformed circuit: paths, and the paper's own definition of class 2.
-use Prim.Native.Nat.{ℕ, _+_, _≤_, _<_}
-use mathlib.Core.Path.{_≡_, refl, sym, ap, _∙_, subst}
-use mathlib.Core.Logic.{_⊎_, inl, inr, _↔_, _≢_}
+use Prim.Native.Nat.{ℕ, _+_, _<_}
+use mathlib.Core.Path.{_≡_, refl, sym, _∙_, subst}
+use mathlib.Core.Logic.{inl, inr, _↔_, _≢_}
 use native.Mathlib.Omega.{arith}
 use native.Mathlib.Decide.{ℕ-discrete}
-use Rattle.chip.specs.Netlist.{Netlist, Sound, PinOf, allPins}
-use Rattle.chip.specs.Class.{Reach, here, on, delay, Branch, Joined, Separable, Together, same, next, Lowest, Blocks, blocks, Class3, Class23}
-use Rattle.chip.specs.Transformed.{opened, openedNet, flat, flattened}
-use Rattle.chip.proofs.Basics.{net-cases, reach-in, net-input, net-cell, flat-comb}
-use Rattle.chip.proofs.Blocks.{left, right, counted, own, one-number, one-block, branch}
+use Rattle.chip.specs.Netlist.{Netlist, Sound, PinOf}
+use Rattle.chip.specs.Class.{Reach, here, on, delay, Branch, Separable, Together, same, next, Lowest, Blocks, blocks, Class3, Class23}
+use Rattle.chip.specs.Transformed.{opened, flat, flattened}
+use Rattle.chip.proofs.Basics.{Counted, net-cases, reach-in, net-input, net-cell, flat-comb}
+use Rattle.chip.proofs.Blocks.{left, right, counted, one-number, one-block}
 
 same-pin : {N M : Netlist} {j p : ℕ} → N .cells ≡ M .cells → N .pins ≡ M .pins → PinOf N j p → PinOf M j p
 same-pin {N} {M} {j} {p} c q o = record { cell = rw c at (o .cell); from = rw q at (o .from); to = rw q at (o .to) }
 
 -- paths of the netlist are those of the circuit whose inputs are the blocks
-module _ (N : Netlist) (S : Sound N) (B : Blocks) (c : (p : ℕ) → p < allPins N → N .net p < N .inputs → B .block p < B .count) where
+module _ (N : Netlist) (S : Sound N) (B : Blocks) (c : Counted N B) where
   pub to-opened : (z : ℕ) {p e : ℕ} → Reach N z p e → Reach (opened N B) z p e
   to-opened z (here h) = here h
   to-opened z (on {q = q} {j = j} o n r) = on (same-pin refl refl o) (net-cell N B q j n) (to-opened z r)

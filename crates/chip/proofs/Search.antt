@@ -2,7 +2,7 @@
 use Prim.Native.Nat.{ℕ, zero, suc, _+_, _*_, _-_, _/_, _%_, _^_, _≤_, _<_}
 use mathlib.Core.Path.{_≡_, refl, sym, ap, _∙_}
 use mathlib.Core.Logic.{_⊎_, inl, inr}
-use mathlib.Core.Bool.{Bool, true, false, cond, _&&_}
+use mathlib.Core.Bool.{Bool, true, false, cond}
 use native.Mathlib.Omega.{arith}
 use native.Mathlib.Decide.{decLt, ℕ-discrete}
 use native.Mathlib.Nat.{sub-zero}
@@ -11,23 +11,24 @@ use lib.Dec.{eqb}
 use Rattle.chip.specs.Netlist.{Netlist, Sound, PinOf, outPin, sumBelow, bit, odd, gate}
 use Rattle.chip.specs.Class.{Reach, here, on, Within, delay, Blocks, tally}
 use Rattle.chip.specs.Transformed.{transformed}
-use Rattle.chip.specs.Faults.{Lines, Run, Shown, good, sees, ones, stuckAt, stuck, transformedLines}
+use Rattle.chip.specs.Faults.{Lines, Shown, good, ones, stuckAt, stuck, transformedLines}
 use Rattle.chip.specs.Clocks.{BlockReaches, Sets}
 use Rattle.chip.specs.Checking.{Seen}
-use Rattle.chip.specs.Search.{FirstHit, NoHit, SiteReaches, Tables, digit, width, pattern, patterns, Tried, Found, Untestable}
+use Rattle.chip.specs.Search.{FirstHit, NoHit, SiteReaches, Tables, digit, pattern, patterns, Tried, Found, Untestable}
 use Rattle.chip.specs.Demand.{PatternShows}
 use Rattle.chip.specs.declared.Site.{Site}
 use Rattle.chip.specs.declared.Site.the-variants.{Net, Pin}
 use Rattle.chip.specs.declared.Fault.{Fault}
-use Rattle.chip.proofs.Basics.{Ranked, sum-up, sum-same, reach-in, ones-same, bit-low}
-use Rattle.chip.proofs.LookBack.{Balanced, Agree, Back, makesOf, run-back, one-back}
+use Rattle.chip.proofs.Bools.{bit-low, passes}
+use Rattle.chip.proofs.Basics.{Ranked, sum-up, sum-same, reach-in, ones-same}
+use Rattle.chip.proofs.LookBack.{Balanced, Agree, Back, makesOf, run-back}
 use Rattle.chip.proofs.Blocks.{tally-past, tally-same}
-use Rattle.chip.proofs.Runs.{has-run, run-same, shown-same}
+use Rattle.chip.proofs.Runs.{has-run, shown-same}
 use Rattle.chip.proofs.Transformed.{shown-iff, at-out, transformed-sound, transformed-ranked, transformed-within}
 use Rattle.chip.proofs.Decide.{find, first-hit}
 use Rattle.chip.proofs.Simulation.{decShown}
-use Rattle.chip.proofs.Clocks.{of-branch, block-low, sets-agree}
-use Rattle.chip.proofs.Demand.{Testable, PatternTestable, set-play, read-play, set-shows, testable}
+use Rattle.chip.proofs.Clocks.{of-branch, sets-agree}
+use Rattle.chip.proofs.Demand.{Testable, set-play, read-play, set-shows, testable}
 
 -- The walk has one answer, and an answer.
 module _ (outs : ℕ) (size : ℕ → ℕ) (Hit : ℕ → ℕ → Type 0) where
@@ -179,11 +180,6 @@ pub stuck-clean : (N : Netlist) (s : Site) (v : Bool) (z : ℕ) → ¬ SiteReach
 stuck-clean N (Net n) v z g p e r b = (refl, cc (ne-eqb (N .net p) n (λ q. g (p, e, q, r))))
 stuck-clean N (Pin q) v z g p e r b = (cc (ne-eqb p q (λ x. g (e, rw x at r))), refl)
 
--- a test that does not fail passes
-pub passes : (b : Bool) → (b ≡ false → ⊥) → b ≡ true
-passes true f = refl
-passes false f = absurd (f refl)
-
 -- Over lines f that are clean at the outputs not walked, and the blocks that reach an output.
 module _ (N : Netlist) (S : Sound N) (R : Ranked N) (d : ℕ) (deep : Within N d) (B : Blocks) (bal : Balanced N B) (f : Lines) (out : ℕ → Bool) (rel : ℕ → ℕ → Bool)
     (off : (z : ℕ) → z < N .outs → out z ≡ false → Clean N S R d deep f z) (rel-no : (z b : ℕ) → z < N .outs → b < B .count → rel z b ≡ false → ¬ BlockReaches N B z b) where
@@ -220,7 +216,7 @@ module _ (N : Netlist) (S : Sound N) (R : Ranked N) (d : ℕ) (deep : Within N d
 
   unfoldable pub decTried : (z m : ℕ) → z < N .outs → Dec (Tried N B f rel z m)
   decTried z m zo =
-      decShown (transformed N B) (transformed-sound N S B bal) (transformed-ranked N S B bal R) 0 (transformed-within N B) (transformedLines N B f) (λ _. pattern rel z m) z 0 (omega arith) zo
+      decShown (transformed N B) (transformed-sound N S B (bal .counted)) (transformed-ranked N S B (bal .counted) R) 0 (transformed-within N B) (transformedLines N B f) (λ _. pattern rel z m) z 0 (omega arith) zo
 
 -- The search for a fault.
 module _ (N : Netlist) (S : Sound N) (R : Ranked N) (d : ℕ) (deep : Within N d) (B : Blocks) (bal : Balanced N B) (fault : Fault) where

@@ -1,17 +1,17 @@
 -- A play shows a fault of the netlist where its pattern shows it in the transformed circuit.
-use Prim.Native.Nat.{ℕ, zero, suc, _+_, _-_, _≤_, _<_}
-use mathlib.Core.Path.{_≡_, refl, sym, ap, _∙_, subst}
-use mathlib.Core.Logic.{_⊎_, inl, inr, _↔_, _≢_}
-use mathlib.Core.Bool.{Bool, true, false, cond}
+use Prim.Native.Nat.{ℕ, suc, _+_, _-_, _≤_, _<_}
+use mathlib.Core.Path.{_≡_, refl, sym, _∙_}
+use mathlib.Core.Logic.{inl, inr, _↔_}
+use mathlib.Core.Bool.{Bool, false, cond}
 use native.Mathlib.Omega.{arith}
 use native.Mathlib.Nat.{sub-zero}
 use borrow.Author.Tests.{lt-ltb, le-ltb}
 use lib.Dec.{ltb}
-use Rattle.chip.specs.Netlist.{Netlist, Sound, PinOf, sumBelow, outPin, allPins}
+use Rattle.chip.specs.Netlist.{Netlist, Sound, PinOf, outPin}
 use Rattle.chip.specs.Class.{Reach, Within, here, on, Blocks}
 use Rattle.chip.specs.Transformed.{transformed, openedNet}
-use Rattle.chip.specs.Faults.{Lines, Run, Shown, sees, good, transformedLines, oldNet}
-use Rattle.chip.proofs.Basics.{flat-comb, Ranked, net-cases, net-input, net-cell, old-cell, pin-in, pin-named}
+use Rattle.chip.specs.Faults.{Lines, Run, Shown, sees, good, transformedLines}
+use Rattle.chip.proofs.Basics.{flat-comb, Counted, Ranked, net-cases, net-input, net-cell, pin-in, pin-named}
 use Rattle.chip.proofs.LookBack.{Balanced, Agree, Back, one-back, run-back, transformed-back}
 use Rattle.chip.proofs.Runs.{has-run}
 
@@ -36,7 +36,7 @@ module _ (N : Netlist) (S : Sound N) (R : Ranked N) (d : ℕ) (deep : Within N d
       cc (sub-zero t)
 
 -- the transformed circuit is sound, and has an order
-module _ (N : Netlist) (S : Sound N) (B : Blocks) (bal : Balanced N B) where
+module _ (N : Netlist) (S : Sound N) (B : Blocks) (counted : Counted N B) where
   pub old-pin : (j p : ℕ) → PinOf (transformed N B) j p → PinOf N j p
   old-pin j p o = record { cell = o .cell; from = o .from; to = o .to }
 
@@ -45,7 +45,7 @@ module _ (N : Netlist) (S : Sound N) (B : Blocks) (bal : Balanced N B) where
       record {
         pinned = S .pinned;
         named = λ p h. elim (net-cases N (N .net p) (S .named p h)) [
-          | inl i ↦ rw (net-input N B p i) (omega (arith, bal .counted p h i))
+          | inl i ↦ rw (net-input N B p i) (omega (arith, counted p h i))
           | inr s ↦ rw (net-cell N B p (s .0) (s .2)) (omega (arith, s .1))
         ];
       }
@@ -66,7 +66,7 @@ module _ (N : Netlist) (S : Sound N) (B : Blocks) (bal : Balanced N B) where
       record {
         rank = newRank (R .rank);
         below = λ j p o. elim (net-cases N (N .net p) (pin-named N S j p (old-pin j p o))) [
-          | inl i ↦ rw (net-input N B p i, new-block (R .rank) (B .block p) (bal .counted p (pin-in N j p (old-pin j p o)) i), new-cell (R .rank) j) (omega arith)
+          | inl i ↦ rw (net-input N B p i, new-block (R .rank) (B .block p) (counted p (pin-in N j p (old-pin j p o)) i), new-cell (R .rank) j) (omega arith)
           | inr s ↦
               let (i, c, q) = s in
               rw (net-cell N B p i q, new-cell (R .rank) i, new-cell (R .rank) j) (omega (arith, rw q at (R .below j p (old-pin j p o))))
@@ -103,6 +103,6 @@ shown-iff N S R d deep B bal f play pat z t late zo agree = (there, back)
 
     back : Shown (transformed N B) (transformedLines N B f) (λ _. pat) z 0 → Shown N f play z t
     back h v v′ a a′ e =
-        let (w, r, _) = has-run (transformed N B) good (λ _. pat) (λ _. false) (transformed-sound N S B bal) (transformed-ranked N S B bal R) in
-        let (w′, r′, _) = has-run (transformed N B) (transformedLines N B f) (λ _. pat) (λ _. false) (transformed-sound N S B bal) (transformed-ranked N S B bal R) in
+        let (w, r, _) = has-run (transformed N B) good (λ _. pat) (λ _. false) (transformed-sound N S B (bal .counted)) (transformed-ranked N S B (bal .counted) R) in
+        let (w′, r′, _) = has-run (transformed N B) (transformedLines N B f) (λ _. pat) (λ _. false) (transformed-sound N S B (bal .counted)) (transformed-ranked N S B (bal .counted) R) in
         h w w′ r r′ (sym (tie good v w a r) ∙ e ∙ tie f v′ w′ a′ r′)

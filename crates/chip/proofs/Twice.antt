@@ -2,13 +2,14 @@
 use Prim.Native.Nat.{ℕ, zero, suc, _+_, _≤_, _<_}
 use mathlib.Core.Path.{_≡_, refl, sym, ap, _∙_, subst}
 use mathlib.Core.Logic.{inl, inr}
-use mathlib.Core.Bool.{Bool, true, false, _&&_, false≢true}
+use mathlib.Core.Bool.{Bool, true, false}
 use native.Mathlib.Omega.{arith}
 use borrow.Author.Tests.{eqb-true}
 use lib.Dec.{eqb}
 use Rattle.chip.specs.Netlist.{Netlist, Sound, sumBelow, allPins, bit}
-use Rattle.chip.specs.Class.{Reach, Branch, Joined, Together, same, next, Lowest, Blocks, tally, leads, blocksOf, blocks}
-use Rattle.chip.specs.Transformed.{opened, openedNet, flat, flattened, transformed}
+use Rattle.chip.specs.Class.{Reach, Branch, Together, same, next, Lowest, Blocks, tally, leads, blocksOf, blocks}
+use Rattle.chip.specs.Transformed.{opened, openedNet, flat, transformed}
+use Rattle.chip.proofs.Bools.{both-true}
 use Rattle.chip.proofs.Basics.{net-cases, net-input, net-cell}
 use Rattle.chip.proofs.Blocks.{left, right, counted, one-number, one-block, branch, low-leads, low-same, tally-past}
 use Rattle.chip.proofs.Opened.{to-opened, to-flat, old-branch, new-branch}
@@ -45,10 +46,6 @@ tally-few s (suc n) h = go (s n) refl (tally-few s n (λ i j l l′. h i j (omeg
 sum-ones : (w : ℕ → ℕ) (n : ℕ) → ((i : ℕ) → i < n → w i ≡ 1) → sumBelow w n ≡ n
 sum-ones w zero h = refl
 sum-ones w (suc n) h = omega (arith, sum-ones w n (λ i l. h i (omega arith)), h n (omega arith))
-
-both-true : (a b : Bool) → (a && b) ≡ true → (a ≡ true) × (b ≡ true)
-both-true true b e = (refl, e)
-both-true false b e = absurd (false≢true e)
 
 -- the transformed circuit has the same blocks, one for each input
 module _ (N : Netlist) (S : Sound N) (low : ℕ → ℕ) (L : Lowest N low) where

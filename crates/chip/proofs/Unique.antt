@@ -1,11 +1,11 @@
 -- Depth, lowest pins and class are each one.
-use Prim.Native.Nat.{ℕ, _+_, _≤_, _<_}
-use mathlib.Core.Path.{_≡_, refl, sym, ap, _∙_, fun-ext}
-use mathlib.Core.Logic.{_⊎_, inl, inr}
+use Prim.Native.Nat.{ℕ, _≤_}
+use mathlib.Core.Path.{_≡_, refl, sym, _∙_, fun-ext}
+use mathlib.Core.Logic.{inl, inr}
 use native.Mathlib.Omega.{arith}
 use native.Mathlib.Decide.{decLt}
 use Rattle.chip.specs.Netlist.{Netlist, allPins}
-use Rattle.chip.specs.Class.{Reach, Within, Depth, Branch, Together, Lowest, Class3, Class23, ClassIs}
+use Rattle.chip.specs.Class.{Depth, Branch, Lowest, Class3, Class23, ClassIs}
 use Rattle.chip.proofs.Blocks.{left, right}
 use Rattle.chip.proofs.Decide.{map-dec, dec-and}
 

@@ -6,16 +6,6 @@ use mathlib.Core.Bool.{Bool, cond, _&&_}
 use lib.Dec.{eqb, leb}
 use Rattle.chip.specs.Netlist.{Netlist, PinOf, sumBelow, outPin, allPins, bit, isFlop}
 
--- A loop is a net that reaches itself through at least one cell, flip-flops included.
-
--- net m is named by a pin of the cell that drives net n, or by one of a cell that drives such a net, and so on
-pub data Feeds (N : Netlist) : ℕ → ℕ → Type 0 where
-  direct : {j p : ℕ} → PinOf N j p → Feeds N (N .net p) (N .inputs + j)
-  via : {m j p : ℕ} → Feeds N m (N .net p) → PinOf N j p → Feeds N m (N .inputs + j)
-
-abbrev pub LoopFree : Netlist → Type 0
-LoopFree N = (n : ℕ) → Feeds N n n → ⊥
-
 -- The depth of a path is the number of flip-flops on it.
 
 -- how many flip-flops a cell of a kind puts on a path through it
@@ -31,10 +21,20 @@ pub data Reach (N : Netlist) (z : ℕ) : ℕ → ℕ → Type 0 where
 abbrev pub Within : Netlist → ℕ → Type 0
 Within N d = (z p e : ℕ) → N .net p < N .inputs → Reach N z p e → e ≤ d
 
--- the depth of the netlist is the greatest over paths from an input to an output
+-- the depth of the netlist is the greatest over paths from an input to an output, and 0 if no path has a flip-flop
 pub record Depth (N : Netlist) (d : ℕ) : Type 0 where
   pub within : Within N d
   pub met : (d ≡ 0) ⊎ ((z : ℕ) × (p : ℕ) × (N .net p < N .inputs) × Reach N z p d)
+
+-- A loop is a net that reaches itself through at least one cell, flip-flops included.
+
+-- net m reaches net n through at least one cell
+pub data Feeds (N : Netlist) : ℕ → ℕ → Type 0 where
+  direct : {j p : ℕ} → PinOf N j p → Feeds N (N .net p) (N .inputs + j)
+  via : {m j p : ℕ} → Feeds N m (N .net p) → PinOf N j p → Feeds N m (N .inputs + j)
+
+abbrev pub LoopFree : Netlist → Type 0
+LoopFree N = (n : ℕ) → Feeds N n n → ⊥
 
 -- the branches of an input are the pins that name it
 pub record Branch (N : Netlist) (x p : ℕ) : Type 0 where
@@ -42,13 +42,14 @@ pub record Branch (N : Netlist) (x p : ℕ) : Type 0 where
   pub names : N .net p ≡ x
   pub input : x < N .inputs
 
--- two branches are separable if no output is reached from both with an equal depth
+-- some output is reached from both branches with an equal depth
 pub record Joined (N : Netlist) (p q : ℕ) : Type 0 where
   pub out : ℕ
   pub depth : ℕ
   pub left : Reach N out p depth
   pub right : Reach N out q depth
 
+-- two branches are separable if no output is reached from both with an equal depth
 abbrev pub Separable : Netlist → ℕ → ℕ → Type 0
 Separable N p q = ¬ Joined N p q
 
@@ -90,6 +91,7 @@ abbrev pub ownerOf : (ℕ → ℕ) → ℕ → ℕ → ℕ
 ownerOf w b zero = 0
 ownerOf w b (suc n) = cond (leb (sumBelow w n) b) n (ownerOf w b n)
 
+-- the blocks by their lowest pins: how many there are, the block of a branch, and the input of a block
 unfoldable pub blocks : Netlist → (ℕ → ℕ) → Blocks
 blocks N low =
     record {

@@ -17,9 +17,11 @@ pub record Lines : Type 0 where
   pub net : ℕ → Bool → Bool
   pub pin : ℕ → Bool → Bool
 
+-- nothing is stuck
 abbrev pub good : Lines
 good = record { net = λ n b. b; pin = λ p b. b }
 
+-- one net or one pin is stuck at a value
 abbrev pub stuckAt : Site → Bool → Lines
 stuckAt (Net n) s = record { net = λ m b. cond (eqb m n) s b; pin = λ p b. b }
 stuckAt (Pin p) s = record { net = λ n b. b; pin = λ q b. cond (eqb q p) s b }
@@ -28,6 +30,7 @@ stuckAt (Pin p) s = record { net = λ n b. b; pin = λ q b. cond (eqb q p) s b }
 abbrev pub stuck : Fault → Lines
 stuck fault = stuckAt (fault .site) (eqb (fault .stuck) 1)
 
+-- the site is one of the nets or pins
 abbrev pub SiteIn : Netlist → Site → Type 0
 SiteIn N (Net n) = n < N .inputs + N .cells
 SiteIn N (Pin p) = p < allPins N
@@ -66,7 +69,7 @@ sees N f v t p = f .pin p (v (N .net p) t)
 abbrev pub makes : Netlist → Lines → (ℕ → ℕ → Bool) → ℕ → ℕ → Bool
 makes N f v t j = gate (N .kind j) (N .pins j) (ones (sees N f v t) (firstPin N j) (N .pins j))
 
--- what the flip-flops show at clock 0 is the starting state, of any value
+-- what the flip-flops show at clock 0 is the starting state, of any value; a stuck one shows what it is stuck at
 abbrev pub StartsAt : Netlist → Lines → (ℕ → Bool) → (ℕ → ℕ → Bool) → Type 0
 StartsAt N f s v = (j : ℕ) → j < N .cells → isFlop (N .kind j) ≡ true → v (N .inputs + j) 0 ≡ f .net (N .inputs + j) (s j)
 
@@ -74,6 +77,7 @@ StartsAt N f s v = (j : ℕ) → j < N .cells → isFlop (N .kind j) ≡ true �
 pub record Run (N : Netlist) (f : Lines) (play : ℕ → ℕ → Bool) (v : ℕ → ℕ → Bool) : Type 0 where
   pub input : (x t : ℕ) → x < N .inputs → v x t ≡ f .net x (play t x)
   pub comb : (j t : ℕ) → j < N .cells → isFlop (N .kind j) ≡ false → v (N .inputs + j) t ≡ f .net (N .inputs + j) (makes N f v t j)
+  -- a DFF shows at clock t + 1 what its pin had at t, and a DFFN the opposite
   pub flop : (j t : ℕ) → j < N .cells → isFlop (N .kind j) ≡ true → v (N .inputs + j) (suc t) ≡ f .net (N .inputs + j) (makes N f v t j)
   pub start : (s : ℕ → Bool) × StartsAt N f s v
 

@@ -6,3 +6,4 @@ pub mod Clocks
 pub mod Checking
 pub mod Search
 pub mod Demand
+pub mod Inner

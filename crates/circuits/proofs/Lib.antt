@@ -1,2 +1,4 @@
 pub mod Small
 pub mod Rows
+pub mod Straight
+pub mod Useless

@@ -1,22 +1,21 @@
 -- P1 to P10: each row is a reply that the call's contract allows, and so the reply.
-use Prim.Native.Nat.{ℕ, zero, suc, _+_, _≤_, _<_}
+use Prim.Native.Nat.{ℕ, _≤_}
 use mathlib.Core.Path.{_≡_, refl, sym, _∙_, subst}
-use mathlib.Core.Bool.{Bool, true, false}
 use mathlib.Core.List.{List, [], _∷_, _++_}
 use mathlib.Core.Logic.{_≢_}
 use lib.ListN.{length, drop}
 use native.Mathlib.Omega.{arith}
 use native.Mathlib.Decide.{ℕ-discrete, decLe, decLt}
-use Rattle.chip.specs.Netlist.{Netlist, Sound, takes, gate, isFlop}
+use Rattle.chip.specs.Netlist.{Sound, takes, gate, isFlop}
 use Rattle.chip.specs.Class.{LoopFree, direct, blocks}
 use Rattle.chip.specs.Transformed.{openedNet, flat}
-use Rattle.chip.specs.Faults.{FaultIn, stuck, oldNet}
+use Rattle.chip.specs.Faults.{FaultIn, stuck, oldNet, playOf}
 use Rattle.chip.specs.declared.Site.the-variants.{Net}
 use Rattle.chip.specs.declared.Fault.{Fault}
 use Rattle.chip.proofs.Basics.{Ranked}
 use Rattle.chip.proofs.Runs.{rounds, value, now, made}
 use Rattle.chip.proofs.Transformed.{transformed-ranked, newRank}
-use Rattle.chip.proofs.Clocks.{decAt, decBlock, decPlace, setting, putAt}
+use Rattle.chip.proofs.Clocks.{decAt, decBlock, decPlace, setting, putAt, reading, takeAt}
 use Rattle.chip.proofs.Tables.{isYes, decPinAt, decSite, test, outTable, relTable}
 use Rattle.chip.proofs.Search.{answered, walked, decOutput, decTried}
 use Rattle.chip.proofs.Simulation.{decShown}
@@ -26,25 +25,26 @@ use Rattle.chip.proofs.Lowest.{has-lowest, decPair, all, along, join, relabel, 
 use Rattle.chip.proofs.Loops.{pick}
 use Rattle.chip.proofs.Classes.{has-class, class-or-place, decClass3, lowest-uneven, decUneven, decNot, Uneven, Alike, alike}
 use Rattle.chip.proofs.Tests.{every, soundTest, soundTest-right, rankTest, rankTest-right}
-use Rattle.netlist.specs.Got.{Got, refused, got}
-use Rattle.netlist.specs.Format.{Parsed, readOf, countAt, wordAt, byteAt, inputs, padAt, isIn, cells, cell, kindAt, pinCountAt, pins, netAt, ending, outputs}
+use Rattle.fields.specs.Got.{refused, got}
+use Rattle.fields.specs.Format.{Parsed, readOf, countAt, wordAt, byteAt, inputs, padAt, isIn, cells, cell, kindAt, pinCountAt, pins, netAt, ending, outputs}
 use Rattle.netlist.specs.Chip.{chipOf}
 use Rattle.structure.specs.Opens.{Opens, unread, looped}
-use Rattle.structure.specs.Reply.{ClassReply, refuses, answers}
-use Rattle.structure.specs.declared.Classed.the-variants.{Class, Refused}
-use Rattle.structure.specs.Refusals.{AllBits}
+use Rattle.structure.specs.Reply.{ClassReply}
+use Rattle.structure.specs.declared.Classed.the-variants.{Class}
 use Rattle.transform.specs.File.{fileOf}
 use Rattle.transform.specs.Reply.{TransformReply, written}
 use Rattle.transform.specs.declared.Transformed.the-variants.{Written}
-use Rattle.clocks.specs.Reply.{SetReply, sets, patternOf}
+use Rattle.plays.specs.Plays.{patternOf}
+use Rattle.clocks.specs.Reply.{SetReply, sets, ReadReply, reads}
 use Rattle.clocks.specs.declared.Setting.the-variants.{Set}
+use Rattle.clocks.specs.declared.Reading.the-variants.{Read}
 use Rattle.checking.specs.Reply.{CheckReply, shows-not}
 use Rattle.checking.specs.declared.Checked.the-variants.{NotShown}
 use Rattle.search.specs.Reply.{SearchReply, uneven}
 use Rattle.search.specs.declared.Searched.the-variants as Searched
 use Rattle.circuits.specs.Table.{SmallCircuits}
 use Rattle.circuits.specs.Circuits.{listingTransformed, listing, straight, neverOne, twoOutputs, buffered, selfFed, empty}
-use Rattle.circuits.proofs.Small.{depthOf, lowOf, classOf, prepared, opens, short-play, fit, setFor, play-is, play-sets, answer, says, leaves, searched, class-1, placed}
+use Rattle.circuits.proofs.Small.{depthOf, lowOf, classOf, prepared, worked, one-bit, two-bits, short-play, fit, setFor, play-is, play-sets, readFor, pattern-reads, answer, says, leaves, searched, class-1, placed}
 
 -- a file is read as one netlist
 one-read : (file : List ℕ) {x y : Parsed} → readOf file ≡ got x → readOf file ≡ got y → x ≡ y
@@ -66,16 +66,12 @@ listed-ranked : Ranked (chipOf listed)
 unfolding chipOf rankTest every
 listed-ranked = rankTest-right (chipOf listed) (λ n. n) tt
 
-listed-opens : Opens listing (got listed)
+listed-worked : Opens listing (got listed) × ClassReply listing (Class 2 1 2)
 unfolding listed-ranked listed-sound depthOf lowOf classOf chipOf has-depth deepest at At has-lowest decPair all along join relabel pick Pair has-class class-or-place decClass3 lowest-uneven decUneven decNot Uneven Alike alike first-hit rankTest-right reaches decReach find dec-and dec-or decPin map-dec decLe decLt ℕ-discrete isFlop blocks
-listed-opens = opens listing listed listed-read listed-sound listed-ranked (omega arith)
-
-listed-class : ClassReply listing (Class 2 1 2)
-unfolding listed-ranked listed-sound depthOf lowOf classOf chipOf has-depth deepest at At has-lowest decPair all along join relabel pick Pair has-class class-or-place decClass3 lowest-uneven decUneven decNot Uneven Alike alike first-hit rankTest-right reaches decReach find dec-and dec-or decPin map-dec decLe decLt ℕ-discrete isFlop blocks
-listed-class = answers listed-opens (prepared (chipOf listed) listed-sound listed-ranked)
+listed-worked = worked listing listed listed-read listed-sound listed-ranked (omega arith)
 
 -- P5: class 3, depth 0
-abbrev through : Parsed
+abbrev pub through : Parsed
 through = record { ins = 1; outs = 1; pads = 1 ∷ 2 ∷ []; kinds = []; counts = []; nets = 0 ∷ [] }
 
 through-read : readOf straight ≡ got through
@@ -90,13 +86,9 @@ through-ranked : Ranked (chipOf through)
 unfolding chipOf rankTest every
 through-ranked = rankTest-right (chipOf through) (λ n. n) tt
 
-through-opens : Opens straight (got through)
+pub through-worked : Opens straight (got through) × ClassReply straight (Class 3 0 1)
 unfolding through-ranked through-sound depthOf lowOf classOf chipOf has-depth deepest at At has-lowest decPair all along join relabel pick Pair has-class class-or-place decClass3 lowest-uneven decUneven decNot Uneven Alike alike first-hit rankTest-right reaches decReach find dec-and dec-or decPin map-dec decLe decLt ℕ-discrete isFlop blocks
-through-opens = opens straight through through-read through-sound through-ranked (omega arith)
-
-through-class : ClassReply straight (Class 3 0 1)
-unfolding through-ranked through-sound depthOf lowOf classOf chipOf has-depth deepest at At has-lowest decPair all along join relabel pick Pair has-class class-or-place decClass3 lowest-uneven decUneven decNot Uneven Alike alike first-hit rankTest-right reaches decReach find dec-and dec-or decPin map-dec decLe decLt ℕ-discrete isFlop blocks
-through-class = answers through-opens (prepared (chipOf through) through-sound through-ranked)
+through-worked = worked straight through through-read through-sound through-ranked (omega arith)
 
 -- P6: one block, class 3
 abbrev never : Parsed
@@ -114,13 +106,9 @@ never-ranked : Ranked (chipOf never)
 unfolding chipOf rankTest every
 never-ranked = rankTest-right (chipOf never) (λ n. n) tt
 
-never-opens : Opens neverOne (got never)
+never-worked : Opens neverOne (got never) × ClassReply neverOne (Class 3 0 1)
 unfolding never-ranked never-sound depthOf lowOf classOf chipOf has-depth deepest at At has-lowest decPair all along join relabel pick Pair has-class class-or-place decClass3 lowest-uneven decUneven decNot Uneven Alike alike first-hit rankTest-right reaches decReach find dec-and dec-or decPin map-dec decLe decLt ℕ-discrete isFlop blocks
-never-opens = opens neverOne never never-read never-sound never-ranked (omega arith)
-
-never-class : ClassReply neverOne (Class 3 0 1)
-unfolding never-ranked never-sound depthOf lowOf classOf chipOf has-depth deepest at At has-lowest decPair all along join relabel pick Pair has-class class-or-place decClass3 lowest-uneven decUneven decNot Uneven Alike alike first-hit rankTest-right reaches decReach find dec-and dec-or decPin map-dec decLe decLt ℕ-discrete isFlop blocks
-never-class = answers never-opens (prepared (chipOf never) never-sound never-ranked)
+never-worked = worked neverOne never never-read never-sound never-ranked (omega arith)
 
 -- P7: class 3, two blocks
 abbrev apart : Parsed
@@ -138,13 +126,9 @@ apart-ranked : Ranked (chipOf apart)
 unfolding chipOf rankTest every
 apart-ranked = rankTest-right (chipOf apart) (λ n. n) tt
 
-apart-opens : Opens twoOutputs (got apart)
+apart-worked : Opens twoOutputs (got apart) × ClassReply twoOutputs (Class 3 1 2)
 unfolding apart-ranked apart-sound depthOf lowOf classOf chipOf has-depth deepest at At has-lowest decPair all along join relabel pick Pair has-class class-or-place decClass3 lowest-uneven decUneven decNot Uneven Alike alike first-hit rankTest-right reaches decReach find dec-and dec-or decPin map-dec decLe decLt ℕ-discrete isFlop blocks
-apart-opens = opens twoOutputs apart apart-read apart-sound apart-ranked (omega arith)
-
-apart-class : ClassReply twoOutputs (Class 3 1 2)
-unfolding apart-ranked apart-sound depthOf lowOf classOf chipOf has-depth deepest at At has-lowest decPair all along join relabel pick Pair has-class class-or-place decClass3 lowest-uneven decUneven decNot Uneven Alike alike first-hit rankTest-right reaches decReach find dec-and dec-or decPin map-dec decLe decLt ℕ-discrete isFlop blocks
-apart-class = answers apart-opens (prepared (chipOf apart) apart-sound apart-ranked)
+apart-worked = worked twoOutputs apart apart-read apart-sound apart-ranked (omega arith)
 
 -- P8: class 1
 abbrev shared : Parsed
@@ -162,13 +146,9 @@ shared-ranked : Ranked (chipOf shared)
 unfolding chipOf rankTest every
 shared-ranked = rankTest-right (chipOf shared) (λ n. n) tt
 
-shared-opens : Opens buffered (got shared)
+shared-worked : Opens buffered (got shared) × ClassReply buffered (Class 1 1 1)
 unfolding shared-ranked shared-sound depthOf lowOf classOf chipOf has-depth deepest at At has-lowest decPair all along join relabel pick Pair has-class class-or-place decClass3 lowest-uneven decUneven decNot Uneven Alike alike first-hit rankTest-right reaches decReach find dec-and dec-or decPin map-dec decLe decLt ℕ-discrete isFlop blocks
-shared-opens = opens buffered shared shared-read shared-sound shared-ranked (omega arith)
-
-shared-class : ClassReply buffered (Class 1 1 1)
-unfolding shared-ranked shared-sound depthOf lowOf classOf chipOf has-depth deepest at At has-lowest decPair all along join relabel pick Pair has-class class-or-place decClass3 lowest-uneven decUneven decNot Uneven Alike alike first-hit rankTest-right reaches decReach find dec-and dec-or decPin map-dec decLe decLt ℕ-discrete isFlop blocks
-shared-class = answers shared-opens (prepared (chipOf shared) shared-sound shared-ranked)
+shared-worked = worked buffered shared shared-read shared-sound shared-ranked (omega arith)
 
 -- P9: 9 at 0
 abbrev fed : Parsed
@@ -182,55 +162,46 @@ fed-looped : ¬ LoopFree (chipOf fed)
 unfolding chipOf
 fed-looped free = free 1 (direct {j = 0} {p = 0} (record { cell = omega arith; from = omega arith; to = omega arith }))
 
-fed-refused : ClassReply selfFed (Refused 9 0)
-fed-refused = refuses (looped fed-read fed-looped)
+fed-refused : Opens selfFed (refused 9 0)
+fed-refused = looped fed-read fed-looped
 
 -- P10: 1 at 0
-empty-refused : ClassReply empty (Refused 1 0)
+empty-refused : Opens empty (refused 1 0)
 unfolding readOf countAt wordAt
-empty-refused = refuses (unread refl)
+empty-refused = unread refl
 
 -- P2: pattern (1, 0) sets clocks 1, 0
 listed-set : (entry : List ℕ) → 2 ≤ length entry → SetReply listing 0 (1 ∷ 0 ∷ []) entry (Set 2) (1 ∷ 0 ∷ drop 2 entry)
 unfolding listed-ranked listed-sound depthOf lowOf classOf chipOf has-depth deepest at At has-lowest decPair all along join relabel pick Pair has-class class-or-place decClass3 lowest-uneven decUneven decNot Uneven Alike alike first-hit rankTest-right reaches decReach find dec-and dec-or decPin map-dec decLe decLt ℕ-discrete isFlop blocks setFor setting putAt decPlace decAt answer says leaves answered walked decOutput decTried decShown rounds value now made transformed-ranked newRank openedNet flat oldNet gate outTable relTable test decSite decPinAt decBlock isYes
 listed-set entry h =
     let even : classOf (chipOf listed) listed-sound listed-ranked ≢ 1 = omega arith in
-    sets (fit listing listed listed-sound listed-ranked listed-opens even) (omega arith) refl bits
-    (play-is listing listed listed-sound listed-ranked listed-opens even 0 (omega arith) (patternOf (1 ∷ 0 ∷ [])))
-    (play-sets listing listed listed-sound listed-ranked listed-opens even 0 (omega arith) (patternOf (1 ∷ 0 ∷ [])))
+    sets (fit listing listed listed-sound listed-ranked (listed-worked .0) even) (omega arith) refl (two-bits 1 0 (omega arith) (omega arith))
+    (play-is listing listed listed-sound listed-ranked (listed-worked .0) even 0 (omega arith) (patternOf (1 ∷ 0 ∷ [])))
+    (play-sets listing listed listed-sound listed-ranked (listed-worked .0) even 0 (omega arith) (patternOf (1 ∷ 0 ∷ [])))
     (record { room = h; now-is = refl })
-  where
-    bits : AllBits (1 ∷ 0 ∷ [])
-    bits zero l = omega arith
-    bits (suc zero) l = omega arith
-    bits (suc (suc k)) l = absurd (omega arith)
 
 -- P3: its transformed circuit
 listed-transformed : (entry : List ℕ) → 21 ≤ length entry → TransformReply listing entry (Written 21) (listingTransformed ++ drop 21 entry)
 unfolding listed-ranked listed-sound fileOf openedNet flat depthOf lowOf classOf chipOf has-depth deepest at At has-lowest decPair all along join relabel pick Pair has-class class-or-place decClass3 lowest-uneven decUneven decNot Uneven Alike alike first-hit rankTest-right reaches decReach find dec-and dec-or decPin map-dec decLe decLt ℕ-discrete isFlop blocks
-listed-transformed entry h = written listed-opens (prepared (chipOf listed) listed-sound listed-ranked) (omega arith) (record { room = h; now-is = refl })
+listed-transformed entry h = written (listed-worked .0) (prepared (chipOf listed) listed-sound listed-ranked) (omega arith) (record { room = h; now-is = refl })
 
 -- P4: of a play of one clock no fault is seen
 listed-short : (fault : Fault) (x : Parsed) → readOf listing ≡ got x → FaultIn (chipOf x) fault → (b : ℕ) → b ≤ 1 → CheckReply listing fault (b ∷ []) NotShown
 unfolding listed-ranked listed-sound depthOf lowOf classOf chipOf has-depth deepest at At has-lowest decPair all along join relabel pick Pair has-class class-or-place decClass3 lowest-uneven decUneven decNot Uneven Alike alike first-hit rankTest-right reaches decReach find dec-and dec-or decPin map-dec decLe decLt ℕ-discrete isFlop blocks
 listed-short fault x e known b h =
-    shows-not {n = 1} listed-opens (subst (λ y. FaultIn (chipOf y) fault) (one-read listing e listed-read) known) (record { long = refl; few = omega arith }) bits (prepared (chipOf listed) listed-sound listed-ranked) (short-play (chipOf listed) (stuck fault) _ 1 1 (omega arith))
-  where
-    bits : AllBits (b ∷ [])
-    bits zero l = h
-    bits (suc k) l = absurd (omega arith)
+    shows-not {n = 1} (listed-worked .0) (subst (λ y. FaultIn (chipOf y) fault) (one-read listing e listed-read) known) (record { long = refl; few = omega arith }) (one-bit b h) (prepared (chipOf listed) listed-sound listed-ranked) (short-play (chipOf listed) (stuck fault) _ 1 1 (omega arith))
 
 -- P5: n0/0 is shown by play 1, tries 2
 through-found : (entry : List ℕ) → 1 ≤ length entry → SearchReply straight (record { site = Net 0; stuck = 0 }) entry (Searched.Found 0 1 2) (1 ∷ drop 1 entry)
 unfolding through-ranked through-sound depthOf lowOf classOf chipOf has-depth deepest at At has-lowest decPair all along join relabel pick Pair has-class class-or-place decClass3 lowest-uneven decUneven decNot Uneven Alike alike first-hit rankTest-right reaches decReach find dec-and dec-or decPin map-dec decLe decLt ℕ-discrete isFlop blocks setFor setting putAt decPlace decAt answer says leaves answered walked decOutput decTried decShown rounds value now made transformed-ranked newRank openedNet flat oldNet gate outTable relTable test decSite decPinAt decBlock isYes
 through-found entry h =
-    searched straight through through-sound through-ranked through-opens (omega arith) (record { site = Net 0; stuck = 0 }) (record { site = omega arith; value = omega arith }) (omega arith) entry h
+    searched straight through through-sound through-ranked (through-worked .0) (omega arith) (record { site = Net 0; stuck = 0 }) (record { site = omega arith; value = omega arith }) (omega arith) entry h
 
 -- P6: the AND's net stuck at 0 is untestable after 2 tries
 never-found : (entry : List ℕ) → 1 ≤ length entry → SearchReply neverOne (record { site = Net 2; stuck = 0 }) entry (Searched.Untestable 2) entry
 unfolding never-ranked never-sound depthOf lowOf classOf chipOf has-depth deepest at At has-lowest decPair all along join relabel pick Pair has-class class-or-place decClass3 lowest-uneven decUneven decNot Uneven Alike alike first-hit rankTest-right reaches decReach find dec-and dec-or decPin map-dec decLe decLt ℕ-discrete isFlop blocks setFor setting putAt decPlace decAt answer says leaves answered walked decOutput decTried decShown rounds value now made transformed-ranked newRank openedNet flat oldNet gate outTable relTable test decSite decPinAt decBlock isYes
 never-found entry h =
-    searched neverOne never never-sound never-ranked never-opens (omega arith) (record { site = Net 2; stuck = 0 }) (record { site = omega arith; value = omega arith }) (omega arith) entry h
+    searched neverOne never never-sound never-ranked (never-worked .0) (omega arith) (record { site = Net 2; stuck = 0 }) (record { site = omega arith; value = omega arith }) (omega arith) entry h
 
 -- P8: the search is refused by 11 at 0
 shared-refused : (fault : Fault) (x : Parsed) → readOf buffered ≡ got x → FaultIn (chipOf x) fault → (entry : List ℕ) → SearchReply buffered fault entry (Searched.Refused 11 0) entry
@@ -238,23 +209,52 @@ unfolding shared-ranked shared-sound placed depthOf lowOf classOf chipOf has-dep
 shared-refused fault x e given entry =
     let known : FaultIn (chipOf shared) fault = subst (λ y. FaultIn (chipOf y) fault) (one-read buffered e shared-read) given in
     let P = prepared (chipOf shared) shared-sound shared-ranked in
-    uneven shared-opens known (placed (chipOf shared) (class-1 (chipOf shared) 1 (P .classed) refl)
+    uneven (shared-worked .0) known (placed (chipOf shared) (class-1 (chipOf shared) 1 (P .classed) refl)
     (class-or-place (chipOf shared) shared-sound shared-ranked (depthOf (chipOf shared) shared-sound shared-ranked) (P .depth .within) (lowOf (chipOf shared) shared-sound shared-ranked) (P .lowest)) .1)
+
+-- The same calls on P5's circuit, and reading back on both.
+
+pub through-transformed : (entry : List ℕ) → 10 ≤ length entry → TransformReply straight entry (Written 10) (straight ++ drop 10 entry)
+unfolding through-ranked through-sound fileOf openedNet flat depthOf lowOf classOf chipOf has-depth deepest at At has-lowest decPair all along join relabel pick Pair has-class class-or-place decClass3 lowest-uneven decUneven decNot Uneven Alike alike first-hit rankTest-right reaches decReach find dec-and dec-or decPin map-dec decLe decLt ℕ-discrete isFlop blocks
+through-transformed entry h = written (through-worked .0) (prepared (chipOf through) through-sound through-ranked) (omega arith) (record { room = h; now-is = refl })
+
+pub through-set : (entry : List ℕ) → 1 ≤ length entry → SetReply straight 0 (1 ∷ []) entry (Set 1) (1 ∷ drop 1 entry)
+unfolding through-ranked through-sound depthOf lowOf classOf chipOf has-depth deepest at At has-lowest decPair all along join relabel pick Pair has-class class-or-place decClass3 lowest-uneven decUneven decNot Uneven Alike alike first-hit rankTest-right reaches decReach find dec-and dec-or decPin map-dec decLe decLt ℕ-discrete isFlop blocks setFor setting putAt decPlace decAt answer says leaves answered walked decOutput decTried decShown rounds value now made transformed-ranked newRank openedNet flat oldNet gate outTable relTable test decSite decPinAt decBlock isYes
+through-set entry h =
+    let even : classOf (chipOf through) through-sound through-ranked ≢ 1 = omega arith in
+    sets (fit straight through through-sound through-ranked (through-worked .0) even) (omega arith) refl (one-bit 1 (omega arith))
+    (play-is straight through through-sound through-ranked (through-worked .0) even 0 (omega arith) (patternOf (1 ∷ [])))
+    (play-sets straight through through-sound through-ranked (through-worked .0) even 0 (omega arith) (patternOf (1 ∷ [])))
+    (record { room = h; now-is = refl })
+
+pub through-back : (entry : List ℕ) → 1 ≤ length entry → ReadReply straight 0 (1 ∷ []) 0 entry (Read 1) (1 ∷ drop 1 entry)
+unfolding through-ranked through-sound depthOf lowOf classOf chipOf has-depth deepest at At has-lowest decPair all along join relabel pick Pair has-class class-or-place decClass3 lowest-uneven decUneven decNot Uneven Alike alike first-hit rankTest-right reaches decReach find dec-and dec-or decPin map-dec decLe decLt ℕ-discrete isFlop blocks readFor reading takeAt decAt answer says leaves answered walked decOutput decTried decShown rounds value now made transformed-ranked newRank openedNet flat oldNet gate outTable relTable test decSite decPinAt decBlock isYes
+through-back entry h =
+    let even : classOf (chipOf through) through-sound through-ranked ≢ 1 = omega arith in
+    reads {n = 1} {pattern = 1 ∷ []} (fit straight through through-sound through-ranked (through-worked .0) even) (omega arith) (record { long = refl; few = omega arith }) (one-bit 1 (omega arith)) (omega arith) (omega arith) refl (one-bit 1 (omega arith))
+    (pattern-reads straight through through-sound through-ranked (through-worked .0) even 0 (omega arith) (playOf 1 (1 ∷ [])) 0 (omega arith)) (record { room = h; now-is = refl })
+
+pub listed-back : (entry : List ℕ) → 2 ≤ length entry → ReadReply listing 0 (1 ∷ 0 ∷ []) 1 entry (Read 2) (1 ∷ 0 ∷ drop 2 entry)
+unfolding listed-ranked listed-sound depthOf lowOf classOf chipOf has-depth deepest at At has-lowest decPair all along join relabel pick Pair has-class class-or-place decClass3 lowest-uneven decUneven decNot Uneven Alike alike first-hit rankTest-right reaches decReach find dec-and dec-or decPin map-dec decLe decLt ℕ-discrete isFlop blocks readFor reading takeAt decAt answer says leaves answered walked decOutput decTried decShown rounds value now made transformed-ranked newRank openedNet flat oldNet gate outTable relTable test decSite decPinAt decBlock isYes
+listed-back entry h =
+    let even : classOf (chipOf listed) listed-sound listed-ranked ≢ 1 = omega arith in
+    reads {n = 2} {pattern = 1 ∷ 0 ∷ []} (fit listing listed listed-sound listed-ranked (listed-worked .0) even) (omega arith) (record { long = refl; few = omega arith }) (two-bits 1 0 (omega arith) (omega arith)) (omega arith) (omega arith) refl (two-bits 1 0 (omega arith) (omega arith))
+    (pattern-reads listing listed listed-sound listed-ranked (listed-worked .0) even 0 (omega arith) (playOf 1 (1 ∷ 0 ∷ [])) 1 (omega arith)) (record { room = h; now-is = refl })
 
 -- the table
 pub small-circuits : SmallCircuits
 small-circuits =
     record {
-      p1 = listed-class;
+      p1 = listed-worked .1;
       p2 = listed-set;
       p3 = listed-transformed;
       p4 = listed-short;
-      p5 = through-class;
+      p5 = through-worked .1;
       p5-search = through-found;
-      p6 = never-class;
+      p6 = never-worked .1;
       p6-search = never-found;
-      p7 = apart-class;
-      p8 = shared-class;
+      p7 = apart-worked .1;
+      p8 = shared-worked .1;
       p8-search = shared-refused;
       p9 = fed-refused;
       p10 = empty-refused;

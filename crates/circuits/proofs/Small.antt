@@ -1,36 +1,44 @@
 -- A file that is small enough to work out: its netlist is prepared by the searches that prove that depth, blocks and class exist.
 use Prim.Native.Nat.{ℕ, zero, suc, _+_, _*_, _≤_, _<_}
-use mathlib.Core.Path.{_≡_, refl, sym, _∙_}
+use mathlib.Core.Path.{_≡_, refl, sym, ap, _∙_}
 use mathlib.Core.Logic.{_⊎_, inl, inr, _≢_}
 use mathlib.Core.Bool.{Bool}
-use mathlib.Core.List.{List, _++_}
-use lib.ListN.{length, drop}
+use mathlib.Core.List.{List, [], _∷_, _++_}
+use lib.ListN.{length, drop, getD}
+use lib.Dec.{eqb}
+use Rattle.chip.proofs.Bools.{bit-is}
+use Rattle.plays.specs.Plays.{patternOf}
 use native.Mathlib.Omega.{arith}
-use Rattle.chip.specs.Netlist.{Netlist, Sound, bit}
-use Rattle.chip.specs.Class.{Prepared, Blocks, blocks, tally, ClassIs, Class23, TwoDepths}
+use Rattle.chip.specs.Netlist.{Netlist, Sound}
+use Rattle.chip.specs.Class.{Prepared, Blocks, blocks, ClassIs, Class23, TwoDepths}
 use Rattle.chip.specs.Faults.{Lines, playOf, IsPlay, FaultIn, stuck}
-use Rattle.chip.specs.Clocks.{Sets}
+use Rattle.chip.specs.Clocks.{Sets, Reads}
 use Rattle.chip.specs.Checking.{NotSeen}
 use Rattle.chip.specs.Search.{pattern}
 use Rattle.chip.specs.Search as Search
 use Rattle.chip.specs.declared.Site.{Site}
 use Rattle.chip.specs.declared.Fault.{Fault}
-use Rattle.chip.proofs.Basics.{Ranked, bit-low}
+use Rattle.chip.proofs.Basics.{Ranked}
 use Rattle.chip.proofs.LookBack.{Balanced}
 use Rattle.chip.proofs.Loops.{loop-free}
-use Rattle.chip.proofs.Clocks.{setting, setting-sets}
-use Rattle.chip.proofs.Bytes.{rows, rows-long, rows-play, rows-value, showable-is}
+use Rattle.chip.proofs.Blocks.{tally-most}
+use Rattle.chip.proofs.Clocks.{setting, setting-sets, reading, reading-reads, block-low}
+use Rattle.chip.proofs.Bytes.{rows, rows-long, rows-at, rows-play, rows-value, showable-is}
 use Rattle.chip.proofs.Search.{answered, found-shows, untestable-right}
 use Rattle.chip.proofs.Tables.{tables}
 use Rattle.chip.proofs.Theorem.{balanced-of}
 use Rattle.chip.proofs.Depths.{has-depth}
 use Rattle.chip.proofs.Lowest.{has-lowest}
 use Rattle.chip.proofs.Classes.{has-class}
-use Rattle.netlist.specs.Got.{got}
-use Rattle.netlist.specs.Format.{Parsed, readOf}
+use Rattle.fields.specs.Got.{got}
+use Rattle.fields.specs.Format.{Parsed, readOf}
 use Rattle.netlist.specs.Chip.{chipOf}
-use Rattle.structure.specs.Opens.{Opens, opened}
+use Rattle.plays.specs.Plays.{AllBits}
+use Rattle.structure.specs.Opens.{Opens}
+use Rattle.structure.specs.Reply.{ClassReply, answers}
+use Rattle.structure.specs.declared.Classed.the-variants.{Class}
 use Rattle.structure.specs.Refusals.{When11, Fit}
+use Rattle.structure.proofs.Opening.{opens-prepared}
 use Rattle.search.specs.Reply.{Not16, SearchReply, finds, finds-none}
 use Rattle.search.specs.declared.Searched.{Searched}
 use Rattle.search.specs.declared.Searched.the-variants.{Found, Untestable}
@@ -55,10 +63,20 @@ module _ (N : Netlist) (S : Sound N) (R : Ranked N) where
         classed = has-class N S R (has-depth N S R .0) (has-depth N S R .1 .within) (has-lowest N S R .0) (has-lowest N S R .1) .1;
       }
 
-pub opens : (file : List ℕ) (x : Parsed) → readOf file ≡ got x → (S : Sound (chipOf x)) (R : Ranked (chipOf x)) → depthOf (chipOf x) S R ≤ 255 → Opens file (got x)
-opens file x e S R h =
-    let P = prepared (chipOf x) S R in
-    opened e (P .loop-free) (λ z D. omega (arith, P .depth .within z (D .pin) (D .depth) (D .input) (D .reach), D .over))
+-- the file opens as its netlist, and naming its class answers what is worked out
+pub worked : (file : List ℕ) (x : Parsed) → readOf file ≡ got x → (S : Sound (chipOf x)) (R : Ranked (chipOf x)) → depthOf (chipOf x) S R ≤ 255
+    → Opens file (got x) × ClassReply file (Class (classOf (chipOf x) S R) (depthOf (chipOf x) S R) (blocks (chipOf x) (lowOf (chipOf x) S R) .count))
+worked file x e S R h = let o : Opens file (got x) = opens-prepared e (prepared (chipOf x) S R) h in (o, answers o (prepared (chipOf x) S R))
+
+-- bytes that are bits
+pub one-bit : (a : ℕ) → a ≤ 1 → AllBits (a ∷ [])
+one-bit a h zero l = h
+one-bit a h (suc k) l = absurd (omega arith)
+
+pub two-bits : (a b : ℕ) → a ≤ 1 → b ≤ 1 → AllBits (a ∷ b ∷ [])
+two-bits a b h g zero l = h
+two-bits a b h g (suc zero) l = g
+two-bits a b h g (suc (suc k)) l = absurd (omega arith)
 
 -- of a play that is not longer than the depth nothing is seen
 pub short-play : (N : Netlist) (f : Lines) (play : ℕ → ℕ → Bool) (d n : ℕ) → n ≤ d → NotSeen N f play d n
@@ -72,13 +90,9 @@ sets-same N B d z pat a b h s =
       zero-elsewhere = λ t x l i g. sym (h t x l i) ∙ s .zero-elsewhere t x l i g;
     }
 
-pub tally-few : (test : ℕ → Bool) (n : ℕ) → tally test n ≤ n
-tally-few test zero = omega arith
-tally-few test (suc n) = omega (arith, tally-few test n, bit-low (test n))
-
 -- with at most 16 blocks no output has more behind it
 pub few-blocks : (N : Netlist) (B : Blocks) (site : Site) → B .count ≤ 16 → Not16 N B site
-few-blocks N B site h z w = omega (arith, w .wide, tally-few (w .rel z) (B .count))
+few-blocks N B site h z w = omega (arith, w .wide, tally-most (w .rel z) (B .count))
 
 -- class 1 has the place of 11
 pub class-1 : (N : Netlist) (k : ℕ) → ClassIs N k → k ≡ 1 → ¬ Class23 N
@@ -117,6 +131,30 @@ module _ (file : List ℕ) (x : Parsed) (S : Sound (chipOf x)) (R : Ranked (chip
 
   pub play-is : (z : ℕ) (zo : z < chipOf x .outs) (pat : ℕ → Bool) → IsPlay (chipOf x .inputs) (playFor z zo pat) (suc (depthOf (chipOf x) S R))
   play-is z zo pat = rows-play (chipOf x .inputs) (suc (depthOf (chipOf x) S R)) (setFor z zo pat)
+
+  -- the pattern that is read back for output z at clock t, and its bytes
+  unfoldable pub readFor : (z : ℕ) → z < chipOf x .outs → (ℕ → ℕ → Bool) → ℕ → ℕ → Bool
+  readFor z zo play t = reading (chipOf x) S R (depthOf (chipOf x) S R) (prepared (chipOf x) S R .depth .within) (blocks (chipOf x) (lowOf (chipOf x) S R)) even-blocks z zo play t
+
+  abbrev pub patternFor : (z : ℕ) → z < chipOf x .outs → (ℕ → ℕ → Bool) → ℕ → List ℕ
+  patternFor z zo play t = rows (blocks (chipOf x) (lowOf (chipOf x) S R) .count) 1 (λ _. readFor z zo play t)
+
+  pub pattern-reads : (z : ℕ) (zo : z < chipOf x .outs) (play : ℕ → ℕ → Bool) (t : ℕ) → depthOf (chipOf x) S R ≤ t
+      → Reads (chipOf x) (blocks (chipOf x) (lowOf (chipOf x) S R)) (depthOf (chipOf x) S R) z t play (patternOf (patternFor z zo play t))
+  unfolding readFor
+  pattern-reads z zo play t late =
+      let r = reading-reads (chipOf x) S R (depthOf (chipOf x) S R) (prepared (chipOf x) S R .depth .within) (blocks (chipOf x) (lowOf (chipOf x) S R)) even-blocks z zo play t late in
+      record {
+        late = late;
+        takes = λ b e s at q. same b (block-low (chipOf x) (depthOf (chipOf x) S R) (prepared (chipOf x) S R .depth .within) (blocks (chipOf x) (lowOf (chipOf x) S R)) even-blocks z at) ∙ r .takes b e s at q;
+        zero-elsewhere = λ b l g. same b l ∙ r .zero-elsewhere b l g;
+      }
+    where
+      same : (b : ℕ) → b < blocks (chipOf x) (lowOf (chipOf x) S R) .count → patternOf (patternFor z zo play t) b ≡ readFor z zo play t b
+      same b l =
+          let n = blocks (chipOf x) (lowOf (chipOf x) S R) .count in
+          let e : b ≡ 0 * n + b = omega arith in
+          ap (λ k. eqb (getD (patternFor z zo play t) k 0) 1) e ∙ ap (λ k. eqb k 1) (rows-at n 1 (λ _. readFor z zo play t) 0 b (omega arith) l) ∙ bit-is (readFor z zo play t b)
 
   module _ (fault : Fault) (known : FaultIn (chipOf x) fault) (few : blocks (chipOf x) (lowOf (chipOf x) S R) .count ≤ 16) (entry : List ℕ)
       (room : suc (depthOf (chipOf x) S R) * chipOf x .inputs ≤ length entry) where

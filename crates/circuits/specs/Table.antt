@@ -6,11 +6,12 @@ use lib.ListN.{length, drop}
 use Rattle.chip.specs.Faults.{FaultIn}
 use Rattle.chip.specs.declared.Site.the-variants.{Net}
 use Rattle.chip.specs.declared.Fault.{Fault}
-use Rattle.netlist.specs.Got.{got}
-use Rattle.netlist.specs.Format.{Parsed, readOf}
+use Rattle.fields.specs.Got.{refused, got}
+use Rattle.fields.specs.Format.{Parsed, readOf}
 use Rattle.netlist.specs.Chip.{chipOf}
+use Rattle.structure.specs.Opens.{Opens}
 use Rattle.structure.specs.Reply.{ClassReply}
-use Rattle.structure.specs.declared.Classed.the-variants.{Class, Refused}
+use Rattle.structure.specs.declared.Classed.the-variants.{Class}
 use Rattle.transform.specs.Reply.{TransformReply}
 use Rattle.transform.specs.declared.Transformed.the-variants.{Written}
 use Rattle.clocks.specs.Reply.{SetReply}
@@ -26,6 +27,7 @@ pub record SmallCircuits : Type 0 where
   pub p1 : ClassReply listing (Class 2 1 2)
   -- pattern (1, 0) sets clocks 1, 0
   pub p2 : (entry : List ℕ) → 2 ≤ length entry → SetReply listing 0 (1 ∷ 0 ∷ []) entry (Set 2) (1 ∷ 0 ∷ drop 2 entry)
+  -- its transformed circuit
   pub p3 : (entry : List ℕ) → 21 ≤ length entry → TransformReply listing entry (Written 21) (listingTransformed ++ drop 21 entry)
   -- a play of one clock: not seen, for any fault
   pub p4 : (fault : Fault) (x : Parsed) → readOf listing ≡ got x → FaultIn (chipOf x) fault → (b : ℕ) → b ≤ 1 → CheckReply listing fault (b ∷ []) NotShown
@@ -40,7 +42,7 @@ pub record SmallCircuits : Type 0 where
   -- class 1; the search is refused by 11 at 0
   pub p8 : ClassReply buffered (Class 1 1 1)
   pub p8-search : (fault : Fault) (x : Parsed) → readOf buffered ≡ got x → FaultIn (chipOf x) fault → (entry : List ℕ) → SearchReply buffered fault entry (Searched.Refused 11 0) entry
-  -- 9
-  pub p9 : ClassReply selfFed (Refused 9 0)
-  -- 1 at 0
-  pub p10 : ClassReply empty (Refused 1 0)
+  -- 9, which every call gives
+  pub p9 : Opens selfFed (refused 9 0)
+  -- 1 at 0, which every call gives
+  pub p10 : Opens empty (refused 1 0)

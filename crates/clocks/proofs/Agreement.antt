@@ -16,14 +16,16 @@ use Rattle.chip.proofs.Loops.{ranked}
 use Rattle.chip.proofs.Clocks.{sets-agree, read-set}
 use Rattle.chip.proofs.Transformed.{agrees}
 use Rattle.chip.proofs.Theorem.{balanced-of}
-use Rattle.netlist.specs.Format.{Parsed}
+use Rattle.fields.specs.Format.{Parsed}
 use Rattle.netlist.specs.Chip.{chipOf}
 use Rattle.netlist.proofs.Limits.{chip-sound}
-use Rattle.structure.specs.Refusals.{AllBits, Wrote, Fit}
-use Rattle.clocks.specs.Reply.{patternOf, blockCount, SetReply, ReadReply}
+use Rattle.plays.specs.Plays.{AllBits, patternOf}
+use Rattle.structure.specs.Refusals.{Wrote, Fit}
+use Rattle.structure.proofs.Replies.{is-read, fit-is}
+use Rattle.plays.proofs.Unique.{bit-same}
+use Rattle.clocks.specs.Reply.{blockCount, SetReply, ReadReply}
 use Rattle.clocks.specs.declared.Setting.the-variants.{Set}
 use Rattle.clocks.specs.declared.Reading.the-variants.{Read}
-use Rattle.clocks.proofs.Unique.{bit-same, fit-is, is-read}
 
 -- what a call that has set a pattern leaves: the first n bytes of the buffer are the play
 pub record HasSet (x : Parsed) (d : ℕ) (low : ℕ → ℕ) (output : ℕ) (pattern play : List ℕ) : Type 0 where

@@ -6,41 +6,18 @@ use mathlib.Core.List.{List}
 use lib.ListN.{length}
 use Rattle.chip.specs.Netlist.{Netlist, InLimits, allPins}
 use Rattle.chip.specs.Class.{Lowest, blocks}
-use Rattle.netlist.specs.Got.{refused, got}
-use Rattle.netlist.specs.Format.{Parsed}
+use Rattle.fields.specs.Got.{got}
+use Rattle.fields.specs.Format.{Parsed}
 use Rattle.netlist.specs.Chip.{chipOf}
-use Rattle.netlist.specs.Holds.{Holds}
-use Rattle.netlist.specs.declared.Sizes.{Sizes}
-use Rattle.netlist.specs.declared.Tables.{Tables}
 use Rattle.structure.specs.Opens.{Opens}
-use Rattle.structure.specs.Refusals.{FirstAboveOne, AllBits, Fit, Clocks}
-use Rattle.structure.specs.Shape.{Shaped, FoundIs}
+use Rattle.plays.specs.Plays.{FirstAboveOne, AllBits, Clocks}
+use Rattle.structure.specs.Refusals.{Fit}
+use Rattle.structure.specs.Inner.Shape.{Shaped}
 use Rattle.structure.specs.declared.Shape.{Shape}
-use Rattle.structure.specs.declared.Found.{Found}
-use Rattle.structure.specs.declared.Found.the-variants.{Looped, TooDeep, Chip}
-use Rattle.structure.proofs.Opening.{tablesChip, opens-looped, opens-deep}
-use Rattle.clocks.specs.Swept.{Even, PlaySet, PatternRead}
+use Rattle.sweeps.specs.Swept.{Even, PlaySet, PatternRead}
 use Rattle.clocks.specs.Reply.{SetReply, ReadReply}
 use Rattle.clocks.specs.declared.Setting.the-variants.{Set, Unset}
 use Rattle.clocks.specs.declared.Reading.the-variants.{Read, Unread}
-
-module _ {N : Netlist} {n : ℕ} {firsts order block reached : List ℕ} {s : Shape} (limits : InLimits N) (pins : n ≡ allPins N) (S : Shaped N firsts order block reached s) where
-  -- the chip's tables are such as a sweep asks for
-  pub shaped-even : s .class ≢ 1 → Even N n (s .depth) (s .blocks) firsts order block
-  shaped-even g =
-      record {
-        limits = limits;
-        pins = pins;
-        first-pins = S .first-pins;
-        ordered = S .ordered;
-        low = S .low;
-        class = s .class;
-        prepared = S .prepared;
-        even = g;
-        block-table = S .block-table;
-        count = S .count;
-        shallow = S .shallow;
-      }
 
 -- the netlist N of the tables is that of the file
 module _ {N : Netlist} {firsts order block reached : List ℕ} {s : Shape} (S₀ : Shaped N firsts order block reached s)
@@ -59,7 +36,7 @@ module _ {N : Netlist} {firsts order block reached : List ℕ} {s : Shape} (S₀
     set-no-output l = SetReply.no-output opens (subst (λ M. M .outs ≤ output) q l)
 
     pub set-uneven : output < N .outs → s .class ≡ 1 → SetReply file output pattern entry (Unset 11 (s .place)) entry
-    set-uneven l e = SetReply.uneven opens (there l) (record { two = S .place e .0; none-below = S .place e .1 })
+    set-uneven l e = SetReply.uneven opens (there l) (S .place e)
 
     module _ (l : output < N .outs) (g : s .class ≢ 1) where
       pub set-bad-length : length pattern ≢ s .blocks → SetReply file output pattern entry (Unset 14 (length pattern)) entry
@@ -87,7 +64,7 @@ module _ {N : Netlist} {firsts order block reached : List ℕ} {s : Shape} (S₀
     read-no-output l = ReadReply.no-output opens (subst (λ M. M .outs ≤ output) q l)
 
     pub read-uneven : output < N .outs → s .class ≡ 1 → ReadReply file output play clock entry (Unread 11 (s .place)) entry
-    read-uneven l e = ReadReply.uneven opens (there l) (record { two = S .place e .0; none-below = S .place e .1 })
+    read-uneven l e = ReadReply.uneven opens (there l) (S .place e)
 
     module _ (l : output < N .outs) (g : s .class ≢ 1) where
       pub read-bad-length : ((m : ℕ) → ¬ Clocks (N .inputs) play m) → ReadReply file output play clock entry (Unread 14 (length play)) entry
@@ -117,14 +94,3 @@ module _ {N : Netlist} {firsts order block reached : List ℕ} {s : Shape} (S₀
                 subst (λ M. (low : ℕ → ℕ) → Lowest M low → PatternRead M (blocks M low) (s .depth) output clock play entry exit) q P₀ (S .low) (S .prepared .lowest) in
                 subst (λ b. ReadReply file output play clock entry (Read b) exit) (sym (S .count))
                 (ReadReply.reads (fit g) (there l) C bits late inside (P .long) (P .bits) (P .reads) (P .wrote))
-
--- what was found of the tables of a file that was taken
-module _ (file : List ℕ) (r : Tables) (z : Sizes) (h : Holds file r z) (firsts order block reached : List ℕ) (a : Found) (f : FoundIs (tablesChip r z) firsts order block reached a) where
-  pub found-looped : a ≡ Looped → Opens file (refused 9 0)
-  found-looped e = opens-looped file r z h (subst (FoundIs (tablesChip r z) firsts order block reached) e f)
-
-  pub found-deep : (y : ℕ) → a ≡ TooDeep y → Opens file (refused 10 y)
-  found-deep y e = opens-deep file r z h y (subst (FoundIs (tablesChip r z) firsts order block reached) e f)
-
-  pub found-chip : (s : Shape) → a ≡ Chip s → Shaped (tablesChip r z) firsts order block reached s
-  found-chip s e = subst (FoundIs (tablesChip r z) firsts order block reached) e f

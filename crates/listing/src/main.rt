@@ -1,7 +1,7 @@
 // Lists a netlist from standard input: a line of sizes and a line for each fault, or the one line of its refusal.
 ghost use Prim.Native.Nat.{_≤_, _<_};
-ghost use Rattle.chip.specs.Netlist.{tabled};
-ghost use Rattle.search.specs.Walk.{Ready};
+ghost use Rattle.chip.specs.Inner.Tables.{tabled};
+ghost use Rattle.walk.specs.Walk.{Ready};
 use chip::Fault;
 use chip::Site;
 use netlist::Reading;
@@ -70,204 +70,19 @@ fn answer(r: Searched, play: &[u8], i: usize, d: usize, line: &mut [u8; 65536], 
     lines::text(line, used, b"\n");
 }
 
-// The line of a fault.
-fn fault_line(
-    i: usize,
-    c: usize,
-    o: usize,
-    n: usize,
-    s: Shape,
-    fault: Fault,
-    kinds: &[u8; 1024],
-    counts: &[u8; 1024],
-    firsts: &[u16; 1025],
-    nets: &[u16; 4096],
-    order: &[u16; 1024],
-    block: &[u16; 4096],
-    reached: &[u64; 4160],
-    cone: &[u64; 4096],
-    play: &mut [u8],
-    line: &mut [u8; 65536],
-    used: &mut usize,
-)
-    requires { ⌜ Ready (tabled i c o (now kinds) (now counts) (now nets)) n s (now firsts) (now order) (now block) (now reached) (now cone) ⌝ }
-{
-    name(fault, line, used);
-    let r = search::search_chip(
-        i,
-        c,
-        o,
-        n,
-        s,
-        fault,
-        kinds,
-        counts,
-        firsts,
-        nets,
-        order,
-        block,
-        reached,
-        cone,
-        play,
-    );
-    answer(r, play, i, s.depth, line, used);
-}
-
-// The lines of a site, stuck at 0 and at 1.
-fn site_lines(
-    i: usize,
-    c: usize,
-    o: usize,
-    n: usize,
-    s: Shape,
-    site: Site,
-    kinds: &[u8; 1024],
-    counts: &[u8; 1024],
-    firsts: &[u16; 1025],
-    nets: &[u16; 4096],
-    order: &[u16; 1024],
-    block: &[u16; 4096],
-    reached: &[u64; 4160],
-    cone: &[u64; 4096],
-    play: &mut [u8],
-    line: &mut [u8; 65536],
-    used: &mut usize,
-)
-    requires { ⌜ Ready (tabled i c o (now kinds) (now counts) (now nets)) n s (now firsts) (now order) (now block) (now reached) (now cone) ⌝ }
-{
-    let zero = Fault {
-        site: site,
-        stuck: 0,
-    };
-    fault_line(
-        i,
-        c,
-        o,
-        n,
-        s,
-        zero,
-        kinds,
-        counts,
-        firsts,
-        nets,
-        order,
-        block,
-        reached,
-        cone,
-        play,
-        line,
-        used,
-    );
-    let one = Fault {
-        site: site,
-        stuck: 1,
-    };
-    fault_line(
-        i,
-        c,
-        o,
-        n,
-        s,
-        one,
-        kinds,
-        counts,
-        firsts,
-        nets,
-        order,
-        block,
-        reached,
-        cone,
-        play,
-        line,
-        used,
-    );
-}
-
-// The lines of all nets.
-fn net_lines(
-    i: usize,
-    c: usize,
-    o: usize,
-    n: usize,
-    s: Shape,
-    kinds: &[u8; 1024],
-    counts: &[u8; 1024],
-    firsts: &[u16; 1025],
-    nets: &[u16; 4096],
-    order: &[u16; 1024],
-    block: &[u16; 4096],
-    reached: &[u64; 4160],
-    cone: &[u64; 4096],
-    play: &mut [u8],
-    line: &mut [u8; 65536],
-    used: &mut usize,
-)
-    requires { ⌜ Ready (tabled i c o (now kinds) (now counts) (now nets)) n s (now firsts) (now order) (now block) (now reached) (now cone) ⌝ }
-{
-    for k in 0..i + c {
-        site_lines(
-            i,
-            c,
-            o,
-            n,
-            s,
-            Site::Net(k),
-            kinds,
-            counts,
-            firsts,
-            nets,
-            order,
-            block,
-            reached,
-            cone,
-            play,
-            line,
-            used,
-        );
+// Fault k of the listing, nets before pins and stuck at 0 before 1.
+fn fault_at(nets: usize, k: usize) -> Fault {
+    let stuck = (k % 2) as u8;
+    let at = k / 2;
+    if at < nets {
+        return Fault {
+            site: Site::Net(at),
+            stuck: stuck,
+        };
     }
-}
-
-// The lines of all pins.
-fn pin_lines(
-    i: usize,
-    c: usize,
-    o: usize,
-    n: usize,
-    s: Shape,
-    kinds: &[u8; 1024],
-    counts: &[u8; 1024],
-    firsts: &[u16; 1025],
-    nets: &[u16; 4096],
-    order: &[u16; 1024],
-    block: &[u16; 4096],
-    reached: &[u64; 4160],
-    cone: &[u64; 4096],
-    play: &mut [u8],
-    line: &mut [u8; 65536],
-    used: &mut usize,
-)
-    requires { ⌜ Ready (tabled i c o (now kinds) (now counts) (now nets)) n s (now firsts) (now order) (now block) (now reached) (now cone) ⌝ }
-{
-    for p in 0..n {
-        site_lines(
-            i,
-            c,
-            o,
-            n,
-            s,
-            Site::Pin(p),
-            kinds,
-            counts,
-            firsts,
-            nets,
-            order,
-            block,
-            reached,
-            cone,
-            play,
-            line,
-            used,
-        );
+    Fault {
+        site: Site::Pin(at - nets),
+        stuck: stuck,
     }
 }
 
@@ -304,42 +119,28 @@ fn list(
     requires { ⌜ Ready (tabled i c o (now kinds) (now counts) (now nets)) n s (now firsts) (now order) (now block) (now reached) (now cone) ⌝ }
 {
     sizes(i, c, o, s, line, used);
-    net_lines(
-        i,
-        c,
-        o,
-        n,
-        s,
-        kinds,
-        counts,
-        firsts,
-        nets,
-        order,
-        block,
-        reached,
-        cone,
-        play,
-        line,
-        used,
-    );
-    pin_lines(
-        i,
-        c,
-        o,
-        n,
-        s,
-        kinds,
-        counts,
-        firsts,
-        nets,
-        order,
-        block,
-        reached,
-        cone,
-        play,
-        line,
-        used,
-    );
+    for k in 0..2 * (i + c + n) {
+        let fault = fault_at(i + c, k);
+        name(fault, line, used);
+        let r = search::search_chip(
+            i,
+            c,
+            o,
+            n,
+            s,
+            fault,
+            kinds,
+            counts,
+            firsts,
+            nets,
+            order,
+            block,
+            reached,
+            cone,
+            play,
+        );
+        answer(r, play, i, s.depth, line, used);
+    }
 }
 
 // The one line of a netlist that is refused.
@@ -394,7 +195,7 @@ fn list_file(file: &[u8], play: &mut [u8], line: &mut [u8; 65536], used: &mut us
         return;
     }
     let mut cone = [0u64; 4096];
-    search::reach_masks(
+    walk::reach_masks(
         z.inputs,
         z.cells,
         z.outputs,
@@ -429,7 +230,7 @@ fn list_file(file: &[u8], play: &mut [u8], line: &mut [u8; 65536], used: &mut us
 fn run(file: &[u8], play: &mut [u8], line: &mut [u8; 65536]) {
     let mut used = 0;
     list_file(file, play, line, &mut used);
-    lines::finish(line, used);
+    lines::finish(line, &mut used);
 }
 
 fn main() {

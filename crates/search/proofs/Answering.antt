@@ -1,8 +1,8 @@
 -- What is found on a prepared chip is what the search replies for the file that it was read from.
 use Prim.Native.Nat.{ℕ, suc, _+_, _*_, _^_, _≤_, _<_}
-use mathlib.Core.Path.{_≡_, refl, sym, ap, _∙_, subst}
+use mathlib.Core.Path.{_≡_, refl, ap, _∙_, subst}
 use mathlib.Core.Logic.{_≢_}
-use mathlib.Core.Bool.{Bool, true, false, not, cond, false≢true}
+use mathlib.Core.Bool.{Bool, true, false, cond}
 use mathlib.Core.List.{List}
 use native.Mathlib.Omega.{arith}
 use native.Mathlib.Numerals.{add-one}
@@ -23,18 +23,17 @@ use Rattle.chip.proofs.Theorem.{balanced-of}
 use Rattle.chip.proofs.Search.{out-same, rel-same, found-shows, untestable-right}
 use Rattle.chip.proofs.Bytes.{showable-is}
 use Rattle.levels.specs.Levels.{Mask}
-use Rattle.netlist.specs.Got.{got}
-use Rattle.netlist.specs.Format.{Parsed}
+use Rattle.fields.specs.Got.{got}
+use Rattle.fields.specs.Format.{Parsed}
 use Rattle.netlist.specs.Chip.{chipOf}
 use Rattle.structure.specs.Opens.{Opens}
 use Rattle.structure.specs.Refusals.{When11, Wrote, Fit}
 use Rattle.structure.specs.declared.Shape.{Shape}
-use Rattle.faults.specs.Sites.{Known}
 use Rattle.trials.specs.Trials.{relOf}
+use Rattle.walk.specs.Walk.{Ready, outOf, widthOf, TooWide, Walkable, WalkIs, Played}
+use Rattle.walk.specs.declared.Walk.{Walk}
+use Rattle.walk.specs.declared.Walk.the-variants as W
 use Rattle.search.specs.Reply.{When16, Not16, SearchReply, no-site, uneven, too-wide, too-short, finds, finds-none}
-use Rattle.search.specs.Walk.{Ready, outOf, widthOf, TooWide, Walkable, WalkIs, Played}
-use Rattle.search.specs.declared.Walk.{Walk}
-use Rattle.search.specs.declared.Walk.the-variants as W
 use Rattle.search.specs.declared.Searched.the-variants.{Found, Untestable, Refused}
 
 -- found, with the play that was set
@@ -45,15 +44,6 @@ record Set (N : Netlist) (B : Blocks) (fault : Fault) (d z m k : ℕ) (entry exi
   sets : Sets N B d z (pattern (found .rel) z m) (playOf (N .inputs) play)
   shown : Shown N (stuck fault) (playOf (N .inputs) play) z d
   wrote : Wrote play entry exit
-
--- what the test of the fault says
-pub is-unknown : (N : Netlist) (fault : Fault) (b : Bool) → Known N fault b → not b ≡ true → ¬ FaultIn N fault
-is-unknown N fault true k e = absurd (false≢true e)
-is-unknown N fault false k e = k
-
-pub is-known : (N : Netlist) (fault : Fault) (b : Bool) → Known N fault b → not b ≡ false → FaultIn N fault
-is-known N fault true k e = k
-is-known N fault false k e = absurd (false≢true (sym e))
 
 -- before the class is asked for
 module _ (N : Netlist) (fault : Fault) (file : List ℕ) (x : Parsed) (o : Opens file (got x)) (q : N ≡ chipOf x) (entry : List ℕ) where

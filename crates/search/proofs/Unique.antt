@@ -1,13 +1,12 @@
 -- The search has one answer, with one content of the lent buffer.
-use Prim.Native.Nat.{ℕ, suc, _*_, _≤_, _<_}
+use Prim.Native.Nat.{ℕ, suc, _*_, _<_}
 use mathlib.Core.Path.{_≡_, refl, sym, ap, _∙_, subst}
 use mathlib.Core.Bool.{Bool, true}
 use mathlib.Core.List.{List}
 use native.Mathlib.Omega.{arith}
-use native.Mathlib.Decide.{decLt}
 use lib.ListN.{length}
 use Rattle.chip.specs.Netlist.{Netlist}
-use Rattle.chip.specs.Class.{Prepared, LoopFree, Blocks, blocks}
+use Rattle.chip.specs.Class.{Prepared, Blocks, blocks}
 use Rattle.chip.specs.Faults.{FaultIn, playOf, IsPlay}
 use Rattle.chip.specs.Clocks.{BlockAt, Sets}
 use Rattle.chip.specs.Search.{pattern}
@@ -15,31 +14,24 @@ use Rattle.chip.specs.Search as S
 use Rattle.chip.specs.declared.Site.{Site}
 use Rattle.chip.specs.declared.Fault.{Fault}
 use Rattle.chip.proofs.Blocks.{tally-same}
-use Rattle.chip.proofs.Loops.{ranked}
-use Rattle.chip.proofs.Clocks.{block-low, one-play}
+use Rattle.chip.proofs.Clocks.{block-low}
 use Rattle.chip.proofs.Search.{out-same, rel-same, pattern-same, one-found, one-untestable, not-both}
-use Rattle.chip.proofs.Theorem.{has-prepared, class-23, balanced-of}
-use Rattle.netlist.specs.Got.{Got, refused, got}
-use Rattle.netlist.specs.Format.{Parsed}
+use Rattle.chip.proofs.Theorem.{balanced-of}
+use Rattle.fields.specs.Got.{got}
+use Rattle.fields.specs.Format.{Parsed}
 use Rattle.netlist.specs.Chip.{chipOf}
-use Rattle.netlist.proofs.Limits.{in-limits, chip-sound}
-use Rattle.structure.specs.Opens.{Opens, opened}
+use Rattle.netlist.proofs.Limits.{chip-sound}
+use Rattle.structure.specs.Opens.{Opens}
 use Rattle.structure.specs.Refusals.{When11, Wrote, Fit}
-use Rattle.structure.proofs.Unique.{one-opens}
-use Rattle.clocks.proofs.Unique.{same-play, same-wrote, is-read, fit-is}
+use Rattle.structure.proofs.Unique.{same-file, not-refused}
+use Rattle.structure.proofs.Replies.{is-read, some-input, prepared, one-uneven, same-wrote, fit-is, not-uneven, Step, hit, miss, one-step, Start, refused-as, taken, one-start}
+use Rattle.clocks.proofs.Unique.{one-set-play}
+use Rattle.walk.proofs.Playing.{sets-same}
 use Rattle.search.specs.Reply.{When16, SearchReply, refuses, no-site, uneven, too-wide, too-short, finds, finds-none}
 use Rattle.search.specs.declared.Searched.{Searched}
 use Rattle.search.specs.declared.Searched.the-variants.{Found, Untestable, Refused}
-use Rattle.search.proofs.Playing.{sets-same}
 
--- the places of refusals 11 and 16
-
-one-uneven : (N : Netlist) (y z : ℕ) → When11 N y → When11 N z → y ≡ z
-one-uneven N y z a b = elim (decLt y z) [
-  | yes l ↦ absurd (b .none-below y l (a .two))
-  | no g ↦ elim (decLt z y) [ yes l ↦ absurd (a .none-below z l (b .two)) | no h ↦ omega arith ]
-]
-
+-- the place of refusal 16
 not-wider : (N : Netlist) (B : Blocks) (site : Site) (y z : ℕ) → When16 N B site y → When16 N B site z → ¬ (y < z)
 not-wider N B site y z a b l =
     let e : b .out y ≡ true = sym (out-same N B site (a .out) (b .out) (a .rel) (b .rel) (a .tables) (b .tables) y (a .output)) ∙ a .reached in
@@ -52,27 +44,6 @@ not-wider N B site y z a b l =
 
 one-wide : (N : Netlist) (B : Blocks) (site : Site) (y z : ℕ) → When16 N B site y → When16 N B site z → y ≡ z
 one-wide N B site y z a b = omega (arith, not-wider N B site y z a b, not-wider N B site z y b a)
-
--- The refusals in their order: the first that holds gives the answer, and if none does the rest gives it.
-data Step {Answer : Type 0} (When : ℕ → Type 0) (reply : ℕ → Answer) (Rest : Answer → Type 0) : Answer → Type 0 where
-  hit : {k : ℕ} → When k → Step When reply Rest (reply k)
-  miss : {r : Answer} → ((k : ℕ) → ¬ When k) → Rest r → Step When reply Rest r
-
-one-step : {Answer : Type 0} {r s : Answer} (When : ℕ → Type 0) (reply : ℕ → Answer) (Rest : Answer → Type 0) → ((k l : ℕ) → When k → When l → reply k ≡ reply l)
-    → ((r s : Answer) → Rest r → Rest s → r ≡ s) → Step When reply Rest r → Step When reply Rest s → r ≡ s
-one-step When reply Rest one rest (hit {k = k} a) (hit {k = l} b) = one k l a b
-one-step When reply Rest one rest (hit {k = k} a) (miss g _) = absurd (g k a)
-one-step When reply Rest one rest (miss g _) (hit {k = k} b) = absurd (g k b)
-one-step When reply Rest one rest (miss _ a) (miss _ b) = rest _ _ a b
-
-some-input : {file : List ℕ} {x : Parsed} → Opens file (got x) → 1 ≤ chipOf x .inputs
-unfolding chipOf
-some-input {file} {x} e = in-limits file x (is-read e) .ins-low
-
-not-uneven : {file : List ℕ} {x : Parsed} {d : ℕ} {low : ℕ → ℕ} → Fit file x d low → (y : ℕ) → ¬ When11 (chipOf x) y
-not-uneven {x = x} F y u =
-    let t = u .two in
-    t .differ (class-23 (chipOf x) (F .class) (F .prepared .classed) (F .even) y (t .left) (t .right) (t .out) (t .depth) (t .depth′) (t .joined) (t .one) (t .other))
 
 module _ (file : List ℕ) (fault : Fault) (entry : List ℕ) where
   abbrev Answer : Type 0
@@ -102,9 +73,8 @@ module _ (file : List ℕ) (fault : Fault) (entry : List ℕ) where
       → IsPlay (chipOf x .inputs) play′ (suc d) → Sets (chipOf x) (blocks (chipOf x) low) d z pat′ (playOf (chipOf x .inputs) play′) → Wrote play′ entry exit′ → exit ≡ exit′
   same-exit x d low z pat pat′ play play′ exit exit′ A o same p s v p′ s′ v′ =
       same-wrote play play′ entry exit exit′
-      (same-play (chipOf x .inputs) (suc d) play play′ (some-input (A .opens)) p p′
-      (λ t y l i. one-play (chipOf x) (chip-sound file x (is-read (A .opens))) (ranked (chipOf x) (A .prepared .loop-free)) d (A .prepared .depth .within) (blocks (chipOf x) low)
-      (balanced-of (chipOf x) d low (A .class) (A .prepared) (A .even)) z o pat _ _ s (sets-same (chipOf x) (blocks (chipOf x) low) d z pat′ pat _ same s′) t y (omega arith) i)) v v′
+      (one-set-play (chipOf x) (chip-sound file x (is-read (A .opens))) (A .prepared .loop-free) (some-input (A .opens)) d (A .prepared .depth .within) (blocks (chipOf x) low)
+      (balanced-of (chipOf x) d low (A .class) (A .prepared) (A .even)) z o pat play play′ p p′ s (sets-same (chipOf x) (blocks (chipOf x) low) d z pat′ pat _ same s′)) v v′
 
   one-end : (x : Parsed) (d : ℕ) (low : ℕ → ℕ) (r s : Answer) → End x d low r → End x d low s → r ≡ s
   one-end x d low _ _ (shown {z = z} {m = m} {k = k} {play = play} {exit = exit} A F p s v) (shown {z = z′} {m = m′} {k = k′} {play = play′} {exit = exit′} _ G p′ s′ v′) =
@@ -128,30 +98,19 @@ module _ (file : List ℕ) (fault : Fault) (entry : List ℕ) where
 
   -- a file that opens as a netlist, with the depth, blocks and class that it has
   module _ {x : Parsed} (opens : Opens file (got x)) {d : ℕ} {low : ℕ → ℕ} {class : ℕ} (P : Prepared (chipOf x) d low class) where
-    same-file : {y : Parsed} → Opens file (got y) → y ≡ x
-    same-file {y} e = let s : _≡_ {A = Got Parsed} (got y) (got x) = one-opens file e opens in cc
-
     fitted : {y : Parsed} {d′ : ℕ} {low′ : ℕ → ℕ} (r : Answer) → Fit file y d′ low′ → From12 y d′ low′ r → From12 x d low r
     fitted r F = fit-is opens P (λ w t m. From12 w t m r) F
 
     steps : {a : Searched} {l : List ℕ} → SearchReply file fault entry a l → From12 x d low (a, l)
-    steps (refuses {n = n} {p = p} e) =
-        let s : _≡_ {A = Got Parsed} (refused n p) (got x) = one-opens file e opens in
-        let z : _≡_ {A = ℕ} 0 1 = cc in
-        absurd (omega arith)
-    steps (no-site e g) = hit {k = 0} (subst (λ w. ¬ FaultIn (chipOf w) fault) (same-file e) g)
-    steps (uneven {y = y} e K u) = miss (λ _ g. g (subst (λ w. FaultIn (chipOf w) fault) (same-file e) K)) (hit (subst (λ w. When11 (chipOf w) y) (same-file e) u))
-    steps (too-wide F K w) = fitted _ F (miss (λ _ g. g K) (miss (not-uneven F) (hit w)))
-    steps (too-short F K g l) = fitted _ F (miss (λ _ h. h K) (miss (not-uneven F) (miss g (hit {k = 0} l))))
-    steps (finds F K g A p s h v) = fitted _ F (miss (λ _ h. h K) (miss (not-uneven F) (miss g (miss (λ _ l. omega (arith, p .long, v .room)) (shown F A p s v)))))
-    steps (finds-none F K g l U _) = fitted _ F (miss (λ _ h. h K) (miss (not-uneven F) (miss g (miss (λ _ h. omega arith) (none U)))))
+    steps (refuses e) = not-refused e opens
+    steps (no-site e g) = hit {k = 0} (subst (λ w. ¬ FaultIn (chipOf w) fault) (same-file e opens) g)
+    steps (uneven {y = y} e K u) = miss (λ _ g. g (subst (λ w. FaultIn (chipOf w) fault) (same-file e opens) K)) (hit (subst (λ w. When11 (chipOf w) y) (same-file e opens) u))
+    steps (too-wide F K w) = fitted _ F (miss (λ _ g. g K) (miss (not-uneven (F .prepared) (F .even)) (hit w)))
+    steps (too-short F K g l) = fitted _ F (miss (λ _ h. h K) (miss (not-uneven (F .prepared) (F .even)) (miss g (hit {k = 0} l))))
+    steps (finds F K g A p s h v) = fitted _ F (miss (λ _ h. h K) (miss (not-uneven (F .prepared) (F .even)) (miss g (miss (λ _ l. omega (arith, p .long, v .room)) (shown F A p s v)))))
+    steps (finds-none F K g l U _) = fitted _ F (miss (λ _ h. h K) (miss (not-uneven (F .prepared) (F .even)) (miss g (miss (λ _ h. omega arith) (none U)))))
 
-  -- a reply is a file's refusal, or the file opens as a netlist
-  data Start : Answer → Type 0 where
-    refused-as : {n p : ℕ} → Opens file (refused n p) → Start (Refused n p, entry)
-    taken : {x : Parsed} {r : Answer} → Opens file (got x) → Start r
-
-  start : {a : Searched} {l : List ℕ} → SearchReply file fault entry a l → Start (a, l)
+  start : {a : Searched} {l : List ℕ} → SearchReply file fault entry a l → Start file {Answer = Answer} (λ n p. (Refused n p, entry)) (a, l)
   start (refuses e) = refused-as e
   start (no-site e _) = taken e
   start (uneven e _ _) = taken e
@@ -160,21 +119,8 @@ module _ (file : List ℕ) (fault : Fault) (entry : List ℕ) where
   start (finds F _ _ _ _ _ _ _) = taken (F .opens)
   start (finds-none F _ _ _ _ _) = taken (F .opens)
 
-  loop-free : {x : Parsed} → Opens file (got x) → LoopFree (chipOf x)
-  loop-free (opened _ free _) = free
-
-  one-taken : {x : Parsed} {a b : Searched} {l m : List ℕ} → Opens file (got x) → SearchReply file fault entry a l → SearchReply file fault entry b m → _≡_ {A = Answer} (a, l) (b, m)
-  one-taken {x = x} e r s =
-      let (d, low, k, P) = has-prepared (chipOf x) (chip-sound file x (is-read e)) (loop-free e) in
-      one-answer x d low _ _ (steps e P r) (steps e P s)
-
-  one-start : {a b : Searched} {l m : List ℕ} → Start (a, l) → Start (b, m) → SearchReply file fault entry a l → SearchReply file fault entry b m → _≡_ {A = Answer} (a, l) (b, m)
-  one-start (refused-as {n = n} {p = p} e) (refused-as {n = n′} {p = p′} f) r s =
-      let q : _≡_ {A = Got Parsed} (refused n p) (refused n′ p′) = one-opens file e f in
-      cc
-  one-start (refused-as e) (taken f) r s = one-taken f r s
-  one-start (taken e) _ r s = one-taken e r s
-
   -- two replies that the contract of the search allows are equal, answer and buffer
   pub one-search-reply : {a b : Searched} {l m : List ℕ} → SearchReply file fault entry a l → SearchReply file fault entry b m → (a ≡ b) × (l ≡ m)
-  one-search-reply r s = let e = one-start (start r) (start s) r s in (ap (λ w. w .0) e, ap (λ w. w .1) e)
+  one-search-reply r s =
+      let e = one-start (start r) (start s) (λ x o. let (d, low, _, P) = prepared o in one-answer x d low _ _ (steps o P r) (steps o P s)) in
+      (ap (λ w. w .0) e, ap (λ w. w .1) e)

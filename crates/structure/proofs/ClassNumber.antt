@@ -1,26 +1,26 @@
 -- The class, and the outputs that each block reaches, from what the labels tell.
-use Prim.Native.Nat.{ℕ, suc, _+_, _≤_, _<_}
-use mathlib.Core.Path.{_≡_, refl, sym, ap, _∙_, subst}
-use mathlib.Core.Logic.{_⊎_, inl, inr, _≢_}
+use Prim.Native.Nat.{ℕ, suc, _≤_, _<_}
+use mathlib.Core.Path.{_≡_, sym, ap, _∙_}
+use mathlib.Core.Logic.{inl, inr}
 use mathlib.Core.List.{List}
 use native.Mathlib.Omega.{arith}
 use native.Mathlib.Decide.{decLt}
 use lib.ListN.{getD}
-use Rattle.chip.specs.Netlist.{Netlist, Sound, allPins}
-use Rattle.chip.specs.Class.{Reach, Branch, Within, Lowest, blocks, ClassIs}
-use Rattle.chip.specs.Clocks.{BlockAt, BlockReaches}
-use Rattle.chip.proofs.Blocks.{own, counted}
+use Rattle.chip.specs.Netlist.{Netlist}
+use Rattle.chip.specs.Class.{Branch, Within, Lowest, blocks, ClassIs}
+use Rattle.chip.specs.Clocks.{BlockReaches}
+use Rattle.chip.proofs.Blocks.{own}
 use Rattle.levels.specs.Levels.{Mask}
 use Rattle.blocks.specs.Labels.{BlockTable}
-use Rattle.balance.specs.Balance.{SeenAt, SeenMasks, Uneven, LowestUneven, FewLabels}
-use Rattle.structure.specs.Shape.{Classified}
+use Rattle.balance.specs.Balance.{SeenAt, SeenMasks, LowestUneven}
+use Rattle.structure.specs.Inner.Shape.{Classified}
 use Rattle.structure.proofs.Evenness.{even-3, uneven-3, even-23, place-11}
 
 pub class-is : (N : Netlist) (low : ℕ → ℕ) (L : Lowest N low) (nets table : List ℕ) → ((p : ℕ) → getD nets p 0 ≡ N .net p) → BlockTable N low table
     → (b x k : ℕ) → LowestUneven N table b → LowestUneven N nets x → Classified (N .inputs) b x k → ClassIs N k
 class-is N low L nets table same t b x k u v c =
     elim (decLt b (N .inputs)) [
-      | yes l ↦ inr (inr (c .one l, λ K. let (d, _) = place-11 N low L table t b u l in d .differ (K b (d .left) (d .right) (d .out) (d .depth) (d .depth′) (d .joined) (d .one) (d .other))))
+      | yes l ↦ inr (inr (c .one l, λ K. let d = place-11 N low L table t b u l .two in d .differ (K b (d .left) (d .right) (d .out) (d .depth) (d .depth′) (d .joined) (d .one) (d .other))))
       | no g ↦
           let h : N .inputs ≤ b = omega arith in
           elim (decLt x (N .inputs)) [

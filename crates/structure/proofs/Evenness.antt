@@ -1,20 +1,20 @@
 -- The class from the labels: conflicts at all depths are the inputs with two depths to one output.
-use Prim.Native.Nat.{ℕ, zero, suc, _+_, _≤_, _<_}
-use mathlib.Core.Path.{_≡_, refl, sym, ap, _∙_, subst}
-use mathlib.Core.Logic.{_⊎_, inl, inr, _≢_}
+use Prim.Native.Nat.{ℕ, suc, _+_, _≤_, _<_}
+use mathlib.Core.Path.{_≡_, sym, ap, _∙_, subst}
 use mathlib.Core.List.{List}
 use native.Mathlib.Omega.{arith}
 use native.Mathlib.Numerals.{add-one}
 use native.Mathlib.Decide.{decLt, ℕ-discrete}
 use lib.ListN.{getD}
-use Rattle.chip.specs.Netlist.{Netlist, allPins, tabled}
-use Rattle.chip.specs.Class.{Reach, Branch, Together, Within, Lowest, blocks, Class3, Class23, TwoDepths}
+use Rattle.chip.specs.Netlist.{Netlist}
+use Rattle.chip.specs.Class.{Branch, Within, Lowest, blocks, Class3, Class23, TwoDepths}
 use Rattle.chip.proofs.Blocks.{left, right, own, one-number, one-block}
 use Rattle.blocks.specs.Labels.{BlockTable}
-use Rattle.structure.specs.Shape.{OneInput, Evened}
+use Rattle.structure.specs.Refusals.{When11}
+use Rattle.structure.specs.Inner.Shape.{OneInput, Evened}
 use Rattle.levels.specs.Levels.{MasksBefore, NetMasks}
 use Rattle.levels.proofs.Masks.{mask-zero}
-use Rattle.balance.specs.Balance.{SeenAt, SeenMasks, Conflict, LowestConflict, Uneven, LowestUneven}
+use Rattle.balance.specs.Balance.{SeenMasks, Conflict, LowestConflict, Uneven, LowestUneven}
 
 -- the lowest conflict at the depths below e
 pub record LowestSoFar (N : Netlist) (labels : List ℕ) (e r : ℕ) : Type 0 where
@@ -197,5 +197,5 @@ module _ (N : Netlist) (low : ℕ → ℕ) (L : Lowest N low) (table : List ℕ)
     | no f ↦ absurd (u .none-below x (omega (arith, left N x s .input)) (of-two x (record { left = p; right = q; out = z; depth = e; depth′ = e′; joined = s; one = g; other = g′; differ = f })))
   ]
 
-  pub place-11 : (r : ℕ) → LowestUneven N table r → r < N .inputs → TwoDepths N r × ((y : ℕ) → y < r → ¬ TwoDepths N y)
-  place-11 r u h = (two-of r (u .uneven h), λ y l d. u .none-below y l (of-two y d))
+  pub place-11 : (r : ℕ) → LowestUneven N table r → r < N .inputs → When11 N r
+  place-11 r u h = record { two = two-of r (u .uneven h); none-below = λ y l d. u .none-below y l (of-two y d) }

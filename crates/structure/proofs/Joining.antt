@@ -1,24 +1,22 @@
 -- What holds between two depths while the blocks are joined, and what the last depth tells.
 use Prim.Native.Nat.{ℕ, zero, suc, _+_, _-_, _^_, _≤_, _<_}
-use mathlib.Core.Path.{_≡_, refl, sym, ap, _∙_, subst}
+use mathlib.Core.Path.{_≡_, refl, sym, _∙_, subst}
 use mathlib.Core.Logic.{_≢_}
 use mathlib.Core.List.{List}
 use native.Mathlib.Omega.{arith}
 use native.Mathlib.Numerals.{add-one}
 use native.Mathlib.Decide.{ℕ-discrete}
-use lib.ListN.{getD}
 use Rattle.chip.specs.Netlist.{Netlist, InLimits, outPin}
-use Rattle.chip.specs.Class.{Reach, here}
+use Rattle.chip.specs.Class.{here}
 use Rattle.chip.proofs.Basics.{Ranked, reach-out}
 use Rattle.order.specs.Order.{Ordered}
 use Rattle.order.proofs.Order.{ranked-of}
 use Rattle.words.specs.Bits.{LowestBit}
 use Rattle.levels.specs.Levels.{MasksBefore, AnyReach}
 use Rattle.levels.proofs.Masks.{mask-some, mask-empty, mask-lowest}
-use Rattle.blocks.specs.Labels.{Labels, JoinedAt, Coarser}
+use Rattle.blocks.specs.Labels.{Labels, JoinedAt}
 use Rattle.blocks.proofs.Labels.{joined-kept, labels-lowest}
-use Rattle.structure.specs.Opens.{Deep}
-use Rattle.structure.specs.Shape.{Deeper, LowestDeep, DepthFound}
+use Rattle.structure.specs.Inner.Shape.{Deeper, LowestDeep, DepthFound}
 use Rattle.structure.proofs.Deepest.{depth-is, deep-is, deep-at}
 
 -- the depths below e are done, and the last of them was reached

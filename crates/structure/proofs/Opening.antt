@@ -1,31 +1,50 @@
 -- The tables of a file that was taken hold its netlist, within the limits; so what is found of the tables is what the file opens as.
-use Prim.Native.Nat.{ℕ, _+_, _<_}
-use mathlib.Core.Path.{_≡_, refl, sym, ap, _∙_, subst, fun-ext}
+use Prim.Native.Nat.{ℕ, _≤_}
+use mathlib.Core.Path.{_≡_, sym, ap, _∙_, subst, fun-ext}
 use mathlib.Core.List.{List}
 use native.Mathlib.Omega.{arith}
-use lib.ListN.{length, getD}
-use Rattle.chip.specs.Netlist.{Netlist, InLimits, tabled, allPins}
-use Rattle.chip.specs.Class.{LoopFree}
-use Rattle.netlist.specs.Got.{Got, refused, got}
+use Rattle.chip.specs.Netlist.{Netlist, InLimits, allPins}
+use Rattle.chip.specs.Inner.Tables.{tabled}
+use Rattle.chip.specs.Class.{LoopFree, Prepared}
+use Rattle.fields.specs.Got.{refused, got}
 use Rattle.netlist.specs.Chip.{chipOf}
-use Rattle.netlist.specs.Format.{readOf}
+use Rattle.fields.specs.Format.{Parsed, readOf}
 use Rattle.netlist.specs.Answer.{tablesOf}
-use Rattle.netlist.specs.Holds.{Holds}
+use Rattle.netlist.specs.Inner.Holds.{Holds}
 use Rattle.netlist.specs.declared.Sizes.{Sizes}
 use Rattle.netlist.specs.declared.Reading.the-variants as R
 use Rattle.netlist.proofs.Use as N
 use Rattle.netlist.specs.declared.Tables.{Tables}
-use Rattle.structure.specs.Opens.{Deep, Opens, unread, looped, deep, opened}
-use Rattle.structure.specs.Shape.{LowestDeep, Shaped, FoundIs}
-use Rattle.structure.specs.Reply.{ClassReply, refuses, answers}
+use Rattle.structure.specs.Opens.{Opens, unread, looped, deep, opened}
+use Rattle.structure.specs.Inner.Shape.{LowestDeep, Shaped, FoundIs}
+use Rattle.structure.specs.Reply.{ClassReply, answers}
 use Rattle.structure.specs.declared.Found.{Found}
 use Rattle.structure.specs.declared.Found.the-variants.{Looped, TooDeep, Chip}
-use Rattle.structure.specs.declared.Classed.the-variants.{Class, Refused}
+use Rattle.structure.specs.declared.Classed.the-variants.{Class}
 use Rattle.structure.specs.declared.Shape.{Shape}
 
 -- the netlist that the tables hold
 abbrev pub tablesChip : Tables → Sizes → Netlist
 tablesChip r z = tabled (z .inputs) (z .cells) (z .outputs) (r .kinds) (r .counts) (r .nets)
+
+-- what was found of a netlist, once the answer is known
+module _ (N : Netlist) (firsts order block reached : List ℕ) (a : Found) (f : FoundIs N firsts order block reached a) where
+  pub found-looped : a ≡ Looped → ¬ LoopFree N
+  found-looped e = subst (FoundIs N firsts order block reached) e f
+
+  pub found-deep : (y : ℕ) → a ≡ TooDeep y → LoopFree N × LowestDeep N y
+  found-deep y e = subst (FoundIs N firsts order block reached) e f
+
+  pub found-chip : (s : Shape) → a ≡ Chip s → Shaped N firsts order block reached s
+  found-chip s e = subst (FoundIs N firsts order block reached) e f
+
+-- a file that is refused by reading
+pub opens-unread : (file : List ℕ) (r : Tables) (k p : ℕ) → r ≡ tablesOf (readOf file) → r .reading ≡ R.Refused k p → Opens file (refused k p)
+opens-unread file r k p e q = unread (N.refuses file r k p e q)
+
+-- and one that opens, for its netlist is prepared and not too deep
+pub opens-prepared : {file : List ℕ} {x : Parsed} {d : ℕ} {low : ℕ → ℕ} {k : ℕ} → readOf file ≡ got x → Prepared (chipOf x) d low k → d ≤ 255 → Opens file (got x)
+opens-prepared e P h = opened e (P .loop-free) (λ y D. omega (arith, P .depth .within y (D .pin) (D .depth) (D .input) (D .reach), D .over))
 
 module _ (file : List ℕ) (r : Tables) (z : Sizes) (h : Holds file r z) where
   pub tables-chip : tablesChip r z ≡ chipOf (h .x)
@@ -72,25 +91,13 @@ module _ (file : List ℕ) (r : Tables) (z : Sizes) (h : Holds file r z) where
   pub opens-chip : (firsts order block reached : List ℕ) (s : Shape) → Shaped (tablesChip r z) firsts order block reached s → Opens file (got (h .x))
   opens-chip firsts order block reached s S =
       let S′ : Shaped (chipOf (h .x)) firsts order block reached s = subst (λ N. Shaped N firsts order block reached s) tables-chip S in
-      opened (h .read) (S′ .prepared .loop-free)
-      (λ y D. omega (arith, S′ .prepared .depth .within y (D .pin) (D .depth) (D .input) (D .reach), D .over, S′ .shallow))
+      opens-prepared (h .read) (S′ .prepared) (S′ .shallow)
 
   pub chip-shaped : (firsts order block reached : List ℕ) (s : Shape) → Shaped (tablesChip r z) firsts order block reached s → Shaped (chipOf (h .x)) firsts order block reached s
   chip-shaped firsts order block reached s S = subst (λ N. Shaped N firsts order block reached s) tables-chip S
 
--- what was read and prepared, once the answers are known, is what naming the class replies
-pub reply-refused : (file : List ℕ) (r : Tables) (k p : ℕ) → r ≡ tablesOf (readOf file) → r .reading ≡ R.Refused k p → ClassReply file (Refused k p)
-reply-refused file r k p e q = refuses (unread (N.refuses file r k p e q))
-
-module _ (file : List ℕ) (r : Tables) (z : Sizes) (h : Holds file r z) (firsts order block reached : List ℕ) where
-  pub reply-looped : (a : Found) → FoundIs (tablesChip r z) firsts order block reached a → a ≡ Looped → ClassReply file (Refused 9 0)
-  reply-looped a f e = refuses (opens-looped file r z h (subst (FoundIs (tablesChip r z) firsts order block reached) e f))
-
-  pub reply-deep : (a : Found) (y : ℕ) → FoundIs (tablesChip r z) firsts order block reached a → a ≡ TooDeep y → ClassReply file (Refused 10 y)
-  reply-deep a y f e = refuses (opens-deep file r z h y (subst (FoundIs (tablesChip r z) firsts order block reached) e f))
-
-  pub reply-chip : (a : Found) (s : Shape) → FoundIs (tablesChip r z) firsts order block reached a → a ≡ Chip s → ClassReply file (Class (s .class) (s .depth) (s .blocks))
-  reply-chip a s f e =
-      let S : Shaped (tablesChip r z) firsts order block reached s = subst (FoundIs (tablesChip r z) firsts order block reached) e f in
-      let S′ : Shaped (chipOf (h .x)) firsts order block reached s = chip-shaped file r z h firsts order block reached s S in
-      rw (S′ .count) (answers (opens-chip file r z h firsts order block reached s S) (S′ .prepared))
+  -- what naming the class replies for it
+  pub reply-chip : (firsts order block reached : List ℕ) (s : Shape) → Shaped (tablesChip r z) firsts order block reached s → ClassReply file (Class (s .class) (s .depth) (s .blocks))
+  reply-chip firsts order block reached s S =
+      let S′ : Shaped (chipOf (h .x)) firsts order block reached s = chip-shaped firsts order block reached s S in
+      rw (S′ .count) (answers (opens-chip firsts order block reached s S) (S′ .prepared))

@@ -1,22 +1,23 @@
 -- The steps of preparing a chip, and that their results are a chip that is prepared.
-use Prim.Native.Nat.{ℕ, suc, _+_, _≤_, _<_}
-use mathlib.Core.Path.{_≡_, refl, sym, ap, _∙_, subst}
+use Prim.Native.Nat.{ℕ, _≤_, _<_}
+use mathlib.Core.Path.{_≡_, subst}
 use mathlib.Core.List.{List}
 use native.Mathlib.Omega.{arith}
 use native.Mathlib.Decide.{decLt}
 use lib.ListN.{getD}
-use Rattle.chip.specs.Netlist.{Netlist, InLimits, FirstPins, allPins}
-use Rattle.chip.specs.Class.{LoopFree, Branch, Within, Lowest, blocks}
+use Rattle.chip.specs.Netlist.{Netlist, InLimits}
+use Rattle.chip.specs.Inner.Tables.{FirstPins}
+use Rattle.chip.specs.Class.{LoopFree, Lowest, blocks}
 use Rattle.chip.proofs.Blocks.{counted}
 use Rattle.order.specs.Order.{Ordered}
 use Rattle.order.specs.Settled.{Settled}
 use Rattle.order.specs.declared.Ordering.{Ordering}
 use Rattle.order.specs.declared.Ordering.the-variants.{Done, Loop}
 use Rattle.order.proofs.Order.{order-free}
-use Rattle.blocks.specs.Labels.{BlockTable, Numbered}
+use Rattle.blocks.specs.Labels.{Numbered}
 use Rattle.blocks.proofs.Numbers.{counted-few}
 use Rattle.balance.specs.Balance.{FewLabels}
-use Rattle.structure.specs.Shape.{OneInput, LowestDeep, DepthFound, DepthIs, Evened, Classified, Shaped}
+use Rattle.structure.specs.Inner.Shape.{OneInput, LowestDeep, DepthFound, DepthIs, Evened, Classified, Shaped}
 use Rattle.structure.specs.declared.Depths.{Depths}
 use Rattle.structure.specs.declared.Depths.the-variants.{Is, Over}
 use Rattle.structure.proofs.Evenness.{blocks-own, place-11}

@@ -1,14 +1,15 @@
 // From a netlist file to the order of its cells, its depth, blocks and class.
 ghost use mathlib.Core.Path.{_≡_};
-ghost use Prim.Native.Nat.{ℕ, suc, _+_, _≤_, _<_};
+ghost use Prim.Native.Nat.{ℕ, _+_, _≤_, _<_};
 ghost use lib.ListN.{getD};
-ghost use Rattle.chip.specs.Netlist.{tabled, allPins, InLimits, FirstPins};
+ghost use Rattle.chip.specs.Netlist.{allPins, InLimits};
+ghost use Rattle.chip.specs.Inner.Tables.{tabled, FirstPins};
 ghost use Rattle.chip.specs.Class.{Within};
 ghost use Rattle.order.specs.Order.{Ordered};
 ghost use Rattle.levels.specs.Levels.{MasksBefore};
 ghost use Rattle.blocks.specs.Labels.{labelOf, Labels};
-ghost use Rattle.balance.specs.Balance.{FewLabels, SeenMasks};
-ghost use Rattle.structure.specs.Shape.{OneInput, Deeper, DepthIs, Evened, Classified, FoundIs};
+ghost use Rattle.balance.specs.Balance.{FewLabels};
+ghost use Rattle.structure.specs.Inner.Shape.{OneInput, Deeper, DepthIs, Evened, Classified, FoundIs};
 ghost use Rattle.structure.specs.Reply.{ClassReply};
 use order::Ordering;
 

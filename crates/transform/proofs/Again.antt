@@ -1,46 +1,25 @@
 -- Transforming the file of a transformed circuit gives the same bytes again: that file opens, with depth 0 and the same blocks.
-use Prim.Native.Nat.{ℕ, zero, suc, _+_, _≤_, _<_}
-use mathlib.Core.Path.{_≡_, refl, sym, ap, _∙_}
-use mathlib.Core.Logic.{inl, inr}
-use mathlib.Core.Bool.{Bool, true, false, cond}
+use Prim.Native.Nat.{ℕ, zero, suc, _+_, _≤_}
+use mathlib.Core.Path.{_≡_, refl, ap, _∙_}
+use mathlib.Core.Logic.{inl}
 use native.Mathlib.Omega.{arith}
-use borrow.Author.Tests.{eqb-true}
-use lib.Dec.{eqb}
-use Rattle.chip.specs.Netlist.{Netlist, Sound, InLimits, PinOf, takes, sumBelow, allPins}
-use Rattle.chip.specs.Class.{Feeds, direct, via, LoopFree, Depth, Lowest, Blocks, blocksOf, blocks, Prepared}
-use Rattle.chip.specs.Transformed.{flat, transformed}
-use Rattle.chip.proofs.Basics.{sum-up, pin-in, net-cases, net-input, net-cell}
+use Rattle.chip.specs.Netlist.{Netlist, Sound, InLimits, sumBelow}
+use Rattle.chip.specs.Class.{LoopFree, Depth, Lowest, Blocks, blocksOf, blocks, Prepared}
+use Rattle.chip.specs.Transformed.{transformed}
+use Rattle.chip.proofs.Basics.{sum-up, takes-flat, flat-known}
 use Rattle.chip.proofs.Blocks.{counted}
-use Rattle.chip.proofs.Transformed.{flat-reach}
+use Rattle.chip.proofs.Loops.{ranked, loop-free}
+use Rattle.chip.proofs.Transformed.{transformed-sound, transformed-ranked, flat-reach}
 use Rattle.chip.proofs.Twice.{flat-flat, lowest-again, count-again, net-again}
 use Rattle.chip.proofs.Theorem.{has-prepared}
-use Rattle.netlist.specs.Got.{got}
-use Rattle.netlist.specs.Format.{Parsed, readOf}
+use Rattle.fields.specs.Got.{got}
+use Rattle.fields.specs.Format.{Parsed, readOf}
 use Rattle.netlist.specs.Chip.{chipOf}
 use Rattle.netlist.proofs.Limits.{chip-sound}
 use Rattle.structure.specs.Opens.{Opens, opened}
 use Rattle.transform.specs.File.{fileOf, transformedFile}
 use Rattle.transform.proofs.RoundTrip.{Pads, parsedOf, read-file}
 use Rattle.transform.proofs.Alike.{Alike, parsed-alike, reach-alike, free-alike, lowest-alike, count-alike, block-alike, opened-alike, file-same}
-
--- a BUF takes the pins of a DFF, and a NOT those of a DFFN
-takes-flat : (k m : ℕ) → takes (flat k) m ≡ takes k m
-unfolding takes flat
-takes-flat k m = go (eqb k 8) (eqb k 9) refl refl
-  where
-    go : (a b : Bool) → eqb k 8 ≡ a → eqb k 9 ≡ b → takes (cond (eqb k 8) 0 (cond (eqb k 9) 1 k)) m ≡ takes k m
-    go true b p q = rw (eqb-true k 8 p)
-    go false true p q = rw (eqb-true k 9 q)
-    go false false p q = rw (p, q)
-
-flat-known : (k : ℕ) → k ≤ 9 → flat k ≤ 9
-unfolding flat
-flat-known k h = go (eqb k 8) (eqb k 9)
-  where
-    go : (a b : Bool) → cond a 0 (cond b 1 k) ≤ 9
-    go true b = omega arith
-    go false true = omega arith
-    go false false = h
 
 -- what transforming finds in the file of a transformed circuit
 pub record Again (N : Netlist) (low : ℕ → ℕ) : Type 0 where
@@ -58,32 +37,12 @@ module _ (N : Netlist) (L : InLimits N) (low : ℕ → ℕ) (W : Lowest N low) w
   abbrev T : Netlist
   T = transformed N (blocks N low)
 
-  -- a pin of the transformed circuit that names a cell named it before
-  old-cell : (p j : ℕ) → p < allPins N → T .net p ≡ B .count + j → N .net p ≡ N .inputs + j
-  old-cell p j h e = elim (net-cases N (N .net p) (L .sound .named p h)) [
-    | inl i ↦ absurd (omega (arith, counted N low W p h i, sym (net-input N B p i) ∙ e))
-    | inr s ↦ let (k, _, q) = s in let same : k ≡ j = omega (arith, sym (net-cell N B p k q) ∙ e) in rw same at q
-  ]
-
-  -- and so it has no loop
-  fed-cell : {m n : ℕ} → Feeds T m n → (j : ℕ) × (n ≡ B .count + j)
-  fed-cell (direct {j = j} o) = (j, refl)
-  fed-cell (via {j = j} q o) = (j, refl)
-
-  old-pin : {j p : ℕ} → PinOf T j p → PinOf N j p
-  old-pin o = record { cell = o .cell; from = o .from; to = o .to }
-
-  feeds-before : {m n : ℕ} (i j : ℕ) → Feeds T m n → m ≡ B .count + i → n ≡ B .count + j → Feeds N (N .inputs + i) (N .inputs + j)
-  feeds-before i j (direct {j = k} {p = p} o) e f =
-      let same : k ≡ j = omega arith in
-      rw (← same, ← (old-cell p i (pin-in N k p (old-pin o)) e)) (direct (old-pin o))
-  feeds-before i j (via {j = k} {p = p} q o) e f =
-      let same : k ≡ j = omega arith in
-      let (l, g) = fed-cell q in
-      rw (← same) (via {m = N .inputs + i} {p = p} (rw (old-cell p l (pin-in N k p (old-pin o)) g) (feeds-before i l q e g)) (old-pin o))
+  -- it is sound, and has no loop
+  new-sound : Sound T
+  new-sound = transformed-sound N (L .sound) B (counted N low W)
 
   new-free : LoopFree N → LoopFree T
-  new-free free n q = let (j, e) = fed-cell q in free (N .inputs + j) (feeds-before j j q e e)
+  new-free free = loop-free T (transformed-ranked N (L .sound) B (counted N low W) (ranked N free))
 
   -- it is within the limits
   some-block : 1 ≤ B .count
@@ -91,15 +50,6 @@ module _ (N : Netlist) (L : InLimits N) (low : ℕ → ℕ) (W : Lowest N low) w
   some-block =
       let up : sumBelow (blocksOf N low) (suc zero) ≤ sumBelow (blocksOf N low) (N .inputs) = sum-up (blocksOf N low) (suc zero) (N .inputs) (L .some-input) in
       omega arith
-
-  new-sound : Sound T
-  new-sound = record {
-    pinned = L .sound .pinned;
-    named = λ p h. elim (net-cases N (N .net p) (L .sound .named p h)) [
-      | inl i ↦ rw (net-input N B p i) (omega (arith, counted N low W p h i))
-      | inr s ↦ rw (net-cell N B p (s .0) (s .2)) (omega (arith, s .1))
-    ];
-  }
 
   module _ (few : B .count ≤ 64) where
     new-limits : InLimits T

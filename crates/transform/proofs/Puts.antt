@@ -8,7 +8,7 @@ use native.Mathlib.Omega.{arith}
 use lib.ListN.{length, set, length-append}
 use lib.Seq.{sets, sets-eq, length-sets}
 use Rattle.structure.specs.Refusals.{Wrote}
-use Rattle.transform.specs.Put.{Put}
+use Rattle.transform.specs.Inner.Put.{Put}
 
 sets-both : (l : List ℕ) (at : ℕ) (a b : List ℕ) → sets l at (a ++ b) ≡ sets (sets l at a) (at + length a) b
 sets-both l at [] b = rw add-zero

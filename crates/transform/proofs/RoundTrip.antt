@@ -2,7 +2,7 @@
 use Prim.Native.Nat.{ℕ, zero, suc, _+_, _*_, _<_, _≤_}
 use mathlib.Core.Path.{_≡_, refl}
 use mathlib.Core.Logic.{_≢_}
-use mathlib.Core.Bool.{Bool, true, false, _||_, not}
+use mathlib.Core.Bool.{Bool, true, false, _||_}
 use mathlib.Core.List.{List, [], _∷_, _++_, append-assoc, append-nil}
 use native.Mathlib.Nat.{add-zero}
 use native.Mathlib.Omega.{arith}
@@ -11,8 +11,8 @@ use lib.ListN.{length}
 use lib.Dec.{eqb}
 use Rattle.chip.specs.Netlist.{Netlist, InLimits, takes, firstPin, outPin, allPins}
 use Rattle.chip.proofs.Basics.{sum-up}
-use Rattle.netlist.specs.Got.{got}
-use Rattle.netlist.specs.Format.{countAt, isIn, padAt, kindAt, pinCountAt, netAt, inputs, pins, Cells, cell, cells, outputs, Parsed, ending, readOf}
+use Rattle.fields.specs.Got.{got}
+use Rattle.fields.specs.Format.{countAt, isIn, padAt, kindAt, pinCountAt, netAt, inputs, pins, Cells, cell, cells, outputs, Parsed, ending, readOf}
 use Rattle.transform.specs.File.{word, inputsFile, pinsFile, cellsFile, outputsFile, fileOf}
 use Rattle.transform.proofs.Seams.{Stands, stands-front, stands-back, byte-read, word-read, piece-at}
 use Rattle.transform.proofs.Lengths.{listed, length-listed, cellFile, outputFile, pins-long, cells-long, outputs-long, file-long}

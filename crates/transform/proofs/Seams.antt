@@ -8,8 +8,8 @@ use native.Mathlib.Omega.{arith}
 use borrow.Author.Tests.{lt-ltb, le-leb}
 use lib.ListN.{length, getD, drop, length-append, length-drop}
 use lib.Seq.{drop-drop, drop-append-seam, getD-drop}
-use Rattle.netlist.specs.Got.{got}
-use Rattle.netlist.specs.Format.{byteAt, wordAt}
+use Rattle.fields.specs.Got.{got}
+use Rattle.fields.specs.Format.{byteAt, wordAt}
 use Rattle.transform.specs.File.{word}
 
 -- from place `at` on the file begins with the piece

@@ -9,18 +9,16 @@ use Rattle.chip.specs.Class.{blocks}
 use Rattle.chip.specs.Transformed.{transformed}
 use Rattle.netlist.specs.Chip.{chipOf}
 use Rattle.blocks.specs.Labels.{BlockTable}
-use Rattle.netlist.specs.Holds.{Holds}
+use Rattle.netlist.specs.Inner.Holds.{Holds}
 use Rattle.netlist.specs.declared.Sizes.{Sizes}
 use Rattle.netlist.specs.declared.Tables.{Tables}
 use Rattle.structure.specs.Refusals.{Wrote}
-use Rattle.structure.specs.Shape.{Shaped, FoundIs}
+use Rattle.structure.specs.Inner.Shape.{Shaped}
 use Rattle.structure.specs.declared.Shape.{Shape}
-use Rattle.structure.specs.declared.Found.{Found}
-use Rattle.structure.specs.declared.Found.the-variants.{Looped, TooDeep, Chip}
-use Rattle.structure.proofs.Opening.{tablesChip, tables-chip, opens-looped, opens-deep, opens-chip, chip-shaped}
+use Rattle.structure.proofs.Opening.{tablesChip, tables-chip, opens-chip, chip-shaped}
 use Rattle.transform.specs.File.{word, inputsFile, cellsFile, outputsFile, fileOf, transformedFile}
-use Rattle.transform.specs.Put.{Put, tabledBlocks, OpenedAs}
-use Rattle.transform.specs.Reply.{TransformReply, refuses, too-many, too-short, written}
+use Rattle.transform.specs.Inner.Put.{Put, tabledBlocks, OpenedAs}
+use Rattle.transform.specs.Reply.{TransformReply, too-many, too-short, written}
 use Rattle.transform.specs.declared.Transformed.the-variants.{Written, Refused}
 use Rattle.transform.proofs.Lengths.{file-long}
 use Rattle.transform.proofs.Alike.{Alike, opened-alike, file-same}
@@ -65,26 +63,19 @@ module _ (file entry : List ℕ) (N : Netlist) (b : ℕ) (block : List ℕ) (O :
       rw (long-is n e) (written (O .opens) (O .prepared) (omega (arith, O .count))
       (subst (λ M. (low : ℕ → ℕ) → BlockTable M low block → b ≡ blocks M low .count → Wrote (transformedFile M (blocks M low)) entry exit) (O .is) w (O .low) (O .table) (O .count)))
 
--- what was read and prepared, once the answers are known, is what transforming replies
-module _ (file : List ℕ) (r : Tables) (z : Sizes) (h : Holds file r z) (firsts order block reached : List ℕ) where
-  pub answers-9 : (entry : List ℕ) (a : Found) → FoundIs (tablesChip r z) firsts order block reached a → a ≡ Looped → TransformReply file entry (Refused 9 0) entry
-  answers-9 entry a f e = refuses (opens-looped file r z h (subst (FoundIs (tablesChip r z) firsts order block reached) e f))
-
-  pub answers-10 : (entry : List ℕ) (a : Found) (y : ℕ) → FoundIs (tablesChip r z) firsts order block reached a → a ≡ TooDeep y → TransformReply file entry (Refused 10 y) entry
-  answers-10 entry a y f e = refuses (opens-deep file r z h y (subst (FoundIs (tablesChip r z) firsts order block reached) e f))
-
-  pub opened-as : (a : Found) (s : Shape) → FoundIs (tablesChip r z) firsts order block reached a → a ≡ Chip s → OpenedAs file (tablesChip r z) (s .blocks) block
-  opened-as a s f e =
-      let S : Shaped (tablesChip r z) firsts order block reached s = subst (FoundIs (tablesChip r z) firsts order block reached) e f in
-      let S′ : Shaped (chipOf (h .x)) firsts order block reached s = chip-shaped file r z h firsts order block reached s S in
-      record {
-        x = h .x;
-        depth = s .depth;
-        low = S′ .low;
-        class = s .class;
-        is = tables-chip file r z h;
-        opens = opens-chip file r z h firsts order block reached s S;
-        prepared = S′ .prepared;
-        count = S′ .count;
-        table = S′ .block-table;
-      }
+-- a chip that was read and prepared is what transforming answers for
+pub opened-as : (file : List ℕ) (r : Tables) (z : Sizes) (h : Holds file r z) (firsts order block reached : List ℕ) (s : Shape) → Shaped (tablesChip r z) firsts order block reached s
+    → OpenedAs file (tablesChip r z) (s .blocks) block
+opened-as file r z h firsts order block reached s S =
+    let S′ : Shaped (chipOf (h .x)) firsts order block reached s = chip-shaped file r z h firsts order block reached s S in
+    record {
+      x = h .x;
+      depth = s .depth;
+      low = S′ .low;
+      class = s .class;
+      is = tables-chip file r z h;
+      opens = opens-chip file r z h firsts order block reached s S;
+      prepared = S′ .prepared;
+      count = S′ .count;
+      table = S′ .block-table;
+    }

@@ -6,19 +6,19 @@ use native.Mathlib.Omega.{arith}
 use lib.ListN.{length, take, drop}
 use lib.Seq.{take-append-seam}
 use Rattle.chip.specs.Netlist.{InLimits}
-use Rattle.chip.specs.Class.{LoopFree, Prepared, blocks}
-use Rattle.chip.proofs.Theorem.{one-prepared}
-use Rattle.netlist.specs.Got.{Got, refused, got}
-use Rattle.netlist.specs.Format.{Parsed, readOf}
+use Rattle.chip.specs.Class.{Prepared, blocks}
+use Rattle.fields.specs.Got.{got}
+use Rattle.fields.specs.Format.{Parsed, readOf}
 use Rattle.netlist.specs.Answer.{tablesOf}
-use Rattle.netlist.specs.Holds.{Holds}
+use Rattle.netlist.specs.Inner.Holds.{Holds}
 use Rattle.netlist.specs.declared.Sizes.{Sizes}
 use Rattle.netlist.specs.declared.Tables.{Tables}
 use Rattle.netlist.specs.declared.Reading.the-variants.{Taken}
 use Rattle.netlist.proofs.Use.{holds}
 use Rattle.netlist.specs.Chip.{chipOf}
-use Rattle.structure.specs.Opens.{Opens, opened}
-use Rattle.structure.proofs.Unique.{one-opens}
+use Rattle.structure.specs.Opens.{Opens}
+use Rattle.structure.proofs.Unique.{not-refused, one-refusal, same-prepared}
+use Rattle.structure.proofs.Replies.{is-read, loop-free, same-wrote}
 use Rattle.structure.proofs.Opening.{tables-chip, tables-limits}
 use Rattle.transform.specs.File.{transformedFile}
 use Rattle.transform.proofs.Again.{Again, again}
@@ -27,45 +27,33 @@ use Rattle.transform.specs.declared.Transformed.{Transformed}
 use Rattle.transform.specs.declared.Transformed.the-variants.{Written, Refused}
 
 module _ (file : List ℕ) where
-  -- a file that is refused does not open
-  clash : {A : Type 0} {n p : ℕ} {x : Parsed} → Opens file (refused n p) → Opens file (got x) → A
-  clash {A} {n} {p} {x} o q = let e : _≡_ {A = Got Parsed} (refused n p) (got x) = one-opens file o q in let z : _≡_ {A = ℕ} 0 1 = cc in absurd (omega arith)
-
   -- a file that opens has one number of blocks and one transformed file
   one-chip : {x y : Parsed} {d d′ : ℕ} {low low′ : ℕ → ℕ} {k k′ : ℕ} → Opens file (got x) → Opens file (got y)
       → Prepared (chipOf x) d low k → Prepared (chipOf y) d′ low′ k′
       → (blocks (chipOf x) low .count ≡ blocks (chipOf y) low′ .count) × (transformedFile (chipOf x) (blocks (chipOf x) low) ≡ transformedFile (chipOf y) (blocks (chipOf y) low′))
-  one-chip {x} {y} {d} {d′} {low} {low′} {k} {k′} o o′ P P′ =
-      let s : _≡_ {A = Got Parsed} (got x) (got y) = one-opens file o o′ in
-      let q : x ≡ y = cc in
-      let (_, l, _) = one-prepared (chipOf y) d d′ low low′ k k′ (subst (λ w. Prepared (chipOf w) d low k) q P) P′ in
-      rw (q, l) (refl, refl)
+  one-chip o o′ P P′ = let (q, _, l, _) = same-prepared o o′ P P′ in rw (q, l) (refl, refl)
 
 module _ (file entry : List ℕ) where
   -- two replies that the contract allows are equal, answer and buffer
   pub one-transform-reply : {r s : Transformed} {a b : List ℕ} → TransformReply file entry r a → TransformReply file entry s b → (r ≡ s) × (a ≡ b)
-  one-transform-reply (refuses {n = n} {p = p} o) (refuses {n = m} {p = q} o′) =
-      let e : _≡_ {A = Got Parsed} (refused n p) (refused m q) = one-opens file o o′ in
-      let h : n ≡ m = cc in
-      let k : p ≡ q = cc in
-      (rw (h, k) refl, refl)
-  one-transform-reply (refuses o) (too-many o′ _ _) = clash file o o′
-  one-transform-reply (refuses o) (too-short o′ _ _ _) = clash file o o′
-  one-transform-reply (refuses o) (written o′ _ _ _) = clash file o o′
-  one-transform-reply (too-many o _ _) (refuses o′) = clash file o′ o
+  one-transform-reply (refuses o) (refuses o′) = let (h, k) = one-refusal o o′ in (rw (h, k) refl, refl)
+  one-transform-reply (refuses o) (too-many o′ _ _) = not-refused o o′
+  one-transform-reply (refuses o) (too-short o′ _ _ _) = not-refused o o′
+  one-transform-reply (refuses o) (written o′ _ _ _) = not-refused o o′
+  one-transform-reply (too-many o _ _) (refuses o′) = not-refused o′ o
   one-transform-reply (too-many o P _) (too-many o′ P′ _) = (ap (Refused 17) (one-chip file o o′ P P′ .0), refl)
   one-transform-reply (too-many o P m) (too-short o′ P′ f _) = absurd (omega (arith, one-chip file o o′ P P′ .0))
   one-transform-reply (too-many o P m) (written o′ P′ f _) = absurd (omega (arith, one-chip file o o′ P P′ .0))
-  one-transform-reply (too-short o _ _ _) (refuses o′) = clash file o′ o
+  one-transform-reply (too-short o _ _ _) (refuses o′) = not-refused o′ o
   one-transform-reply (too-short o P f _) (too-many o′ P′ m) = absurd (omega (arith, one-chip file o o′ P P′ .0))
   one-transform-reply (too-short o P _ _) (too-short o′ P′ _ _) = (ap (λ l. Refused 15 (length l)) (one-chip file o o′ P P′ .1), refl)
   one-transform-reply (too-short o P _ s) (written o′ P′ _ w) = absurd (omega (arith, ap length (one-chip file o o′ P P′ .1), w .room))
-  one-transform-reply (written o _ _ _) (refuses o′) = clash file o′ o
+  one-transform-reply (written o _ _ _) (refuses o′) = not-refused o′ o
   one-transform-reply (written o P f _) (too-many o′ P′ m) = absurd (omega (arith, one-chip file o o′ P P′ .0))
   one-transform-reply (written o P _ w) (too-short o′ P′ _ s) = absurd (omega (arith, ap length (one-chip file o o′ P P′ .1), w .room))
   one-transform-reply (written o P _ w) (written o′ P′ _ w′) =
       let e = one-chip file o o′ P P′ .1 in
-      (ap (λ l. Written (length l)) e, w .now-is ∙ ap (λ l. l ++ drop (length l) entry) e ∙ sym (w′ .now-is))
+      (ap (λ l. Written (length l)) e, same-wrote _ _ entry _ _ e w w′)
 
 -- the netlist of a file that opens is within the limits
 opened-limits : (file : List ℕ) (x : Parsed) → readOf file ≡ got x → InLimits (chipOf x)
@@ -78,16 +66,11 @@ opened-limits file x e =
     let q : h .x ≡ x = let s : got (h .x) ≡ got x = sym (h .read) ∙ e in cc in
     subst (λ y. InLimits (chipOf y)) q (subst InLimits (tables-chip file t z h) (tables-limits file t z h))
 
--- what is read of a file that opens
-read-is : (file : List ℕ) (x : Parsed) → Opens file (got x) → (readOf file ≡ got x) × LoopFree (chipOf x)
-read-is file x (opened e free _) = (e, free)
-
 -- Transforming the result of a transform returns the same bytes.
 pub transform-again : (file entry exit : List ℕ) (n : ℕ) → TransformReply file entry (Written n) exit
     → (entry′ : List ℕ) → n ≤ length entry′ → TransformReply (take n exit) entry′ (Written n) (take n exit ++ drop n entry′)
 transform-again file entry exit n (written {x = x} {low = low} o P few w) entry′ h =
-    let (e, free) = read-is file x o in
-    let A : Again (chipOf x) low = again (chipOf x) (opened-limits file x e) low (P .lowest) few free in
+    let A : Again (chipOf x) low = again (chipOf x) (opened-limits file x (is-read o)) low (P .lowest) few (loop-free o) in
     let F : List ℕ = transformedFile (chipOf x) (blocks (chipOf x) low) in
     let r : TransformReply F entry′ (Written (length F)) (F ++ drop (length F) entry′) =
     subst (λ l. TransformReply F entry′ (Written (length l)) (l ++ drop (length l) entry′)) (A .same)

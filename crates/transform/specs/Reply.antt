@@ -1,10 +1,10 @@
--- What transforming answers, and what it leaves in the lent buffer.
+-- 'Refusal numbers', transforming: what it answers, and what it leaves in the lent buffer.
 use Prim.Native.Nat.{ℕ, _≤_, _<_}
 use mathlib.Core.List.{List}
 use lib.ListN.{length}
 use Rattle.chip.specs.Class.{Prepared, blocks}
-use Rattle.netlist.specs.Got.{refused, got}
-use Rattle.netlist.specs.Format.{Parsed}
+use Rattle.fields.specs.Got.{refused, got}
+use Rattle.fields.specs.Format.{Parsed}
 use Rattle.netlist.specs.Chip.{chipOf}
 use Rattle.structure.specs.Opens.{Opens}
 use Rattle.structure.specs.Refusals.{Wrote}

@@ -3,16 +3,18 @@ ghost use mathlib.Core.Path.{_≡_};
 ghost use mathlib.Core.List.{List, _∷_, _++_};
 ghost use Prim.Native.Nat.{ℕ, _+_, _*_, _≤_, _<_};
 ghost use lib.ListN.{length, getD};
-ghost use Rattle.chip.specs.Netlist.{tabled, sumBelow, allPins, InLimits};
+ghost use Rattle.chip.specs.Netlist.{sumBelow, allPins, InLimits};
+ghost use Rattle.chip.specs.Inner.Tables.{tabled};
 ghost use Rattle.chip.specs.Class.{blocks};
 ghost use Rattle.chip.specs.Transformed.{openedNet, flat};
 ghost use Rattle.blocks.specs.Labels.{BlockTable};
 ghost use Rattle.structure.specs.Refusals.{Wrote};
 ghost use Rattle.transform.specs.File.{word, inputsFile, pinsFile, cellsFile, outputsFile, transformedFile};
 ghost use Rattle.transform.specs.Reply.{TransformReply};
-ghost use Rattle.transform.specs.Put.{Put, tabledBlocks, newChip, LowNets, OpenedAs};
-ghost use Rattle.netlist.specs.Holds.{Holds};
+ghost use Rattle.transform.specs.Inner.Put.{Put, tabledBlocks, newChip, LowNets, OpenedAs};
+ghost use Rattle.netlist.specs.Inner.Holds.{Holds};
 ghost use Rattle.netlist.specs.declared.Reading.{Reading};
+use chip::flat_kind;
 use chip::wide;
 use chip::wide8;
 use netlist::Sizes;
@@ -78,19 +80,6 @@ fn put_pins(
         at = put_word(out, at, new_net(i, nets, b, block, from + k));
     }
     at
-}
-
-// A DFF is a BUF, a DFFN a NOT.
-fn flat_kind(kind: u8) -> u8
-    ensures { λ r. ⌜ r ≡ flat kind ⌝ }
-{
-    if kind == 8 {
-        return 0;
-    }
-    if kind == 9 {
-        return 1;
-    }
-    kind
 }
 
 // A cell: its kind, its pin count m, and its pins, of which p is the first.

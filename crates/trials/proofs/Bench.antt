@@ -7,7 +7,8 @@ use mathlib.Core.List.{List}
 use native.Mathlib.Omega.{arith}
 use native.Mathlib.Decide.{decLt}
 use lib.ListN.{getD}
-use Rattle.chip.specs.Netlist.{Netlist, Sound, InLimits, FirstPins, PinOf, firstPin, outPin, allPins, gate}
+use Rattle.chip.specs.Netlist.{Netlist, Sound, InLimits, PinOf, firstPin, outPin, allPins, gate}
+use Rattle.chip.specs.Inner.Tables.{FirstPins}
 use Rattle.chip.specs.Class.{Reach, on, Lowest, Class23, blocks, tally, delay}
 use Rattle.chip.specs.Transformed.{transformed, opened, openedNet}
 use Rattle.chip.specs.Faults.{Lines, Run, ones, sees}
@@ -15,9 +16,9 @@ use Rattle.chip.specs.Search.{digit, width, pattern}
 use Rattle.chip.proofs.Basics.{ones-same, gate-flat, net-input, net-cell, net-cases, pin-in, reach-in, first-pin}
 use Rattle.chip.proofs.LookBack.{Balanced, Back, makesOf, run-back}
 use Rattle.chip.proofs.Transformed.{at-out, transformed-sound, transformed-ranked, transformed-within}
-use Rattle.chip.proofs.Blocks.{balanced, counted, tally-past}
+use Rattle.chip.proofs.Blocks.{balanced, tally-past}
 use Rattle.chip.proofs.Opened.{from-opened, from-flat}
-use Rattle.chip.proofs.Search.{passes}
+use Rattle.chip.proofs.Bools.{passes}
 use Rattle.order.specs.Order.{Ordered}
 use Rattle.order.proofs.Order.{ranked-of}
 use Rattle.words.specs.Lanes.{Wiring, shows, ranLane}
@@ -226,8 +227,8 @@ module _ (N : Netlist) (low : ℕ → ℕ) (rel : ℕ → ℕ → Bool) (z : ℕ
             → sees (transformed N (blocks N low)) g r 0 (outPin N z) ≡ after (getD sources (outPin N z) 0)
         lane-sees r R =
             let T = transformed N (blocks N low) in
-            let S = transformed-sound N sound (blocks N low) bal in
-            let K = transformed-ranked N sound (blocks N low) bal (ranked-of (Q .ordered)) in
+            let S = transformed-sound N sound (blocks N low) (bal .counted) in
+            let K = transformed-ranked N sound (blocks N low) (bal .counted) (ranked-of (Q .ordered)) in
             let W = transformed-within N (blocks N low) in
             let e : after (getD good (outPin N z) 0) ≡ r (openedNet N (blocks N low) (outPin N z)) (0 - 0) =
             at-out T S K 0 W g (λ _. pattern rel z m) z 0 (omega arith) (Q .output) _ _ back (run-back T S K g (λ _. pattern rel z m) z 0 0 W (omega arith) r R) in

@@ -7,7 +7,8 @@ use mathlib.Core.List.{List}
 use native.Mathlib.Omega.{arith}
 use lib.ListN.{getD}
 use lib.Dec.{eqb}
-use Rattle.chip.specs.Netlist.{Netlist, Sound, tabled, outPin, allPins}
+use Rattle.chip.specs.Netlist.{Netlist, Sound, outPin, allPins}
+use Rattle.chip.specs.Inner.Tables.{tabled}
 use Rattle.chip.specs.Class.{Blocks, blocks}
 use Rattle.chip.specs.Transformed.{transformed, openedNet}
 use Rattle.chip.specs.Faults.{Lines, Run, Shown, good, sees, stuck, transformedLines, oldNet}
@@ -15,7 +16,7 @@ use Rattle.chip.specs.Search.{digit, width, pattern, Tried}
 use Rattle.chip.specs.declared.Fault.{Fault}
 use Rattle.chip.proofs.Basics.{Ranked, net-cases, net-input, net-cell, old-block, old-cell}
 use Rattle.chip.proofs.LookBack.{Balanced}
-use Rattle.chip.proofs.Blocks.{balanced}
+use Rattle.chip.proofs.Blocks.{counted, balanced}
 use Rattle.chip.proofs.Pins.{onPins, pins-only}
 use Rattle.chip.proofs.Runs.{has-run}
 use Rattle.chip.proofs.Transformed.{transformed-sound, transformed-ranked, transformed-within}
@@ -106,10 +107,10 @@ module _ (i c o : ℕ) (kinds counts nets firsts order cone gs fs cells : List �
     )
       where
         S : Sound (transformed N B)
-        S = transformed-sound N (Q .limits .sound) B (balanced N low (Q .lowest) (Q .even))
+        S = transformed-sound N (Q .limits .sound) B (counted N low (Q .lowest))
 
         K : Ranked (transformed N B)
-        K = transformed-ranked N (Q .limits .sound) B (balanced N low (Q .lowest) (Q .even)) (ranked-of (Q .ordered))
+        K = transformed-ranked N (Q .limits .sound) B (counted N low (Q .lowest)) (ranked-of (Q .ordered))
 
         only : Shown (transformed N B) (transformedLines N B (stuck fault)) (λ _. pattern rel z (64 * q + l)) z 0 ↔ Shown (transformed N B) f (λ _. pattern rel z (64 * q + l)) z 0
         only = pins-only (transformed N B) S K 0 (transformed-within N B) (transformedLines N B (stuck fault)) (λ _. pattern rel z (64 * q + l)) z 0 (omega arith) (Q .output)

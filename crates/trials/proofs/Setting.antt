@@ -7,7 +7,8 @@ use native.Mathlib.Omega.{arith}
 use borrow.Author.Tests.{lt-ltb, le-ltb}
 use lib.ListN.{length, getD}
 use lib.Dec.{eqb}
-use Rattle.chip.specs.Netlist.{Netlist, tabled, InLimits, FirstPins, PinOf, firstPin, outPin, allPins}
+use Rattle.chip.specs.Netlist.{Netlist, InLimits, PinOf, firstPin, outPin, allPins}
+use Rattle.chip.specs.Inner.Tables.{tabled, FirstPins}
 use Rattle.chip.specs.Class.{blocks, tally}
 use Rattle.chip.specs.Faults.{stuck}
 use Rattle.chip.specs.Search.{digit, width}
@@ -19,7 +20,7 @@ use Rattle.words.specs.Lanes.{wired, Ready}
 use Rattle.faults.specs.Sources.{hits, Sources}
 use Rattle.trials.specs.Trials.{relOf, ReachMasks}
 use Rattle.trials.specs.Chunks.{Laid, variable, Variables, slotOf, PinSlots, inCone, Picked, Runnable, Lanes}
-use Rattle.trials.proofs.Tables.{tally-few}
+use Rattle.chip.proofs.Blocks.{tally-most}
 use Rattle.trials.proofs.Bench.{Bench, cell-few, good-few}
 use Rattle.trials.proofs.Lanes.{lanes}
 
@@ -103,7 +104,7 @@ module _ (i c o n z b w k : ℕ) (kinds counts nets firsts order block reached c
   ready : (sources : List ℕ) → length sources ≡ 4096 → ((p : ℕ) → p < allPins N → getD sources p 0 < 1152) → Ready kinds firsts counts sources 16 1152 cells k
   ready sources sl slot-low =
       record {
-        listed = omega (arith, P .long, P .count, tally-few (λ t. inCone firsts cone z (getD order t 0)) c, L .few-cells);
+        listed = omega (arith, P .long, P .count, tally-most (λ t. inCone firsts cone z (getD order t 0)) c, L .few-cells);
         cells = λ t l.
             let j : ℕ = getD cells t 0 in
             let jc : j < c = few-run t l in

@@ -1,5 +1,5 @@
 -- Tables that are filled entry by entry, and what stands at a place of one.
-use Prim.Native.Nat.{ℕ, zero, suc, _+_, _*_, _≤_, _<_}
+use Prim.Native.Nat.{ℕ, zero, suc, _+_, _*_, _<_}
 use mathlib.Core.Path.{_≡_, refl, sym, ap, _∙_}
 use mathlib.Core.Bool.{Bool, true, false}
 use mathlib.Core.List.{List}
@@ -10,14 +10,9 @@ use lib.ListN.{length, getD, set, length-set}
 use lib.Seq.{getD-set-same, getD-set-other}
 use Rattle.chip.specs.Netlist.{bit}
 use Rattle.chip.specs.Class.{tally}
-use Rattle.chip.proofs.Basics.{bit-low}
-use Rattle.chip.proofs.Blocks.{tally-past}
+use Rattle.chip.proofs.Blocks.{tally-most, tally-past}
 use Rattle.chip.specs.Search.{digit}
 use Rattle.trials.specs.Chunks.{variable, Variables, slotOf, PinSlots, Picked, Held, ChunkSlots}
-
-pub tally-few : (test : ℕ → Bool) (n : ℕ) → tally test n ≤ n
-tally-few test zero = omega arith
-tally-few test (suc n) = omega (arith, tally-few test n, bit-low (test n))
 
 -- the number that passes the test as the one after k others
 pub passing : (test : ℕ → Bool) (n k : ℕ) → k < tally test n → (t : ℕ) × (t < n) × (test t ≡ true) × (tally test t ≡ k)
@@ -59,7 +54,7 @@ pins-more i n slots nets block sources v l P e =
 module _ (n : ℕ) (order : List ℕ) (test : ℕ → Bool) (cells : List ℕ) (k : ℕ) (P : Picked n order test cells k) where
   pub picked-more : n < 1024 → test (getD order n 0) ≡ true → Picked (n + 1) order test (set cells k (getD order n 0)) (k + 1)
   picked-more l e =
-      let few : k < length cells = omega (arith, P .count, P .long, tally-few (λ t. test (getD order t 0)) n) in
+      let few : k < length cells = omega (arith, P .count, P .long, tally-most (λ t. test (getD order t 0)) n) in
       record {
         long = simp length-set (P .long);
         count = rw (add-one n) (omega (arith, P .count, ap bit e));

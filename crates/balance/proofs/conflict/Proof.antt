@@ -6,7 +6,8 @@ use native.Mathlib.Omega.{arith}
 use borrow.Author.Needs.{needs}
 use lib.ListN.{getD}
 use lib.Bits.{bitAnd}
-use Rattle.chip.specs.Netlist.{Netlist, tabled, allPins}
+use Rattle.chip.specs.Netlist.{Netlist, allPins}
+use Rattle.chip.specs.Inner.Tables.{tabled}
 use Rattle.balance.specs.Balance.{Conflict}
 use Rattle.balance.proofs.Laws.{Among, among-start, among-skip, among-more, among-done, meets, meets-not}
 use Rattle.balance.proofs.conflict.Statement.{statement}

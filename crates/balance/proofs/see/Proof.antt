@@ -5,7 +5,8 @@ use mathlib.Core.Logic.{⊎-elim}
 use native.Mathlib.Omega.{arith}
 use borrow.Author.Needs.{needs}
 use lib.ListN.{length, getD}
-use Rattle.chip.specs.Netlist.{Netlist, tabled, allPins}
+use Rattle.chip.specs.Netlist.{Netlist, allPins}
+use Rattle.chip.specs.Inner.Tables.{tabled}
 use Rattle.balance.proofs.Laws.{Part, part-start, part-skip, part-more, part-done}
 use Rattle.balance.proofs.see.Statement.{statement}
 use Rattle.balance.proofs.see.Tie as tie

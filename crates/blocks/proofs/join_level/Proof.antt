@@ -4,7 +4,8 @@ use mathlib.Core.Logic.{⊎-elim}
 use Prim.Native.Nat.{_*_, _-_, _≤_, _<_}
 use native.Mathlib.Omega.{arith}
 use lib.ListN.{getD}
-use Rattle.chip.specs.Netlist.{tabled, allPins}
+use Rattle.chip.specs.Netlist.{allPins}
+use Rattle.chip.specs.Inner.Tables.{tabled}
 use Rattle.blocks.specs.Labels.{labelOf}
 use Rattle.blocks.specs.Steps.{Owners, Meeting}
 use Rattle.blocks.proofs.Meeting.{meeting-start, meeting-pin, meeting-still, meeting-inner, meeting-all}

@@ -2,7 +2,8 @@ use borrow.Author.Needs.{needs}
 use mathlib.Core.Path.{_≡_, refl}
 use Prim.Native.Nat.{_-_, _≤_}
 use native.Mathlib.Omega.{arith}
-use Rattle.chip.specs.Netlist.{tabled, allPins}
+use Rattle.chip.specs.Netlist.{allPins}
+use Rattle.chip.specs.Inner.Tables.{tabled}
 use Rattle.blocks.specs.Labels.{labelOf}
 use Rattle.blocks.proofs.Labels.{label-in}
 use Rattle.blocks.proofs.Numbers.{Counted, counted-none, counted-more, counted-all, counted-few, lowest-under}

@@ -1,17 +1,12 @@
-use Prim.Native.Nat.{_≤_}
 use borrow.Author.Needs.{needs}
 use Rattle.calls.proofs.run.Statement.{statement}
 use Rattle.calls.proofs.run.Tie as tie
-use Rattle.calls.proofs.run.Reads as reads
-use Rattle.calls.proofs.run.Lts as lts
-use Rattle.calls.proofs.answer.Reads as answer-reads
-use Rattle.lines.proofs.finish.Reads as finish-reads
 
 abbrev Inv-loop : tie.InvT-loop
-Inv-loop ready₀ file₀ text₀ lent₀ line₀ at₀ end₀ used₀ turns₀ ready file text lent line at end used turns = end ≤ 65536
+Inv-loop file₀ text₀ lent₀ line₀ used₀ turns₀ file text lent line used turns = Unit {0}
 
 abbrev μ-loop : tie.MeasureT-loop
-μ-loop ready₀ file₀ text₀ lent₀ line₀ at₀ end₀ used₀ turns₀ ready file text lent line at end used turns = turns
+μ-loop file₀ text₀ lent₀ line₀ used₀ turns₀ file text lent line used turns = turns
 
 loop-holds : tie.Need-loop-holds Inv-loop μ-loop
 loop-holds c = search needs

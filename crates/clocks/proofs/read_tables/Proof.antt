@@ -1,8 +1,7 @@
 use borrow.Author.Needs.{needs}
 use lib.ListN.{getD-replicate}
-use Rattle.structure.proofs.Opening.{tables-limits, tables-pins, tables-chip, opens-chip}
+use Rattle.structure.proofs.Opening.{found-looped, found-deep, found-chip, tables-limits, tables-pins, tables-chip, opens-looped, opens-deep, opens-chip}
 use Rattle.clocks.specs.Reply.{ReadReply}
-use Rattle.clocks.proofs.Replies.{found-looped, found-deep, found-chip}
 use Rattle.clocks.proofs.read_tables.Statement.{statement}
 use Rattle.clocks.proofs.read_tables.Tie as tie
 
@@ -27,17 +26,17 @@ read-chip-requires c κs =
     let p = t .before .before .before in
     let s = p .before .before .before .before .before .before .before .before .before .before .before .before .before in
     let h = s .pre .1 in
-    (tables-limits _ _ _ h, (tables-pins _ _ _ h, (_, found-chip _ _ _ h _ _ _ _ _ (p .prepare .ensures) _ (t .before .s .given .1))))
+    (tables-limits _ _ _ h, (tables-pins _ _ _ h, (_, found-chip _ _ _ _ _ _ (p .prepare .ensures) _ (t .before .s .given .1))))
 
 returns : tie.Need-returns
 returns c =
     let p = c .before .before in
-    λ file h. ReadReply.refuses (found-looped file _ _ h _ _ _ _ _ (p .prepare .ensures) (c .enum-told .given .1))
+    λ file h. ReadReply.refuses (opens-looped file _ _ h (found-looped _ _ _ _ _ _ (p .prepare .ensures) (c .enum-told .given .1)))
 
 returns-2 : tie.Need-returns-2
 returns-2 c =
     let p = c .before .before .before in
-    λ file h. ReadReply.refuses (found-deep file _ _ h _ _ _ _ _ (p .prepare .ensures) _ (c .before .y .given .1))
+    λ file h. ReadReply.refuses (opens-deep file _ _ h _ (found-deep _ _ _ _ _ _ (p .prepare .ensures) _ (c .before .y .given .1)))
 
 same-length : tie.Need-same-length
 same-length c = search needs
@@ -46,7 +45,7 @@ returns-3 : tie.Need-returns-3
 returns-3 c =
     let t = c .before .before .before .before .before .before .before .before .before .before in
     let p = t .before .before .before in
-    λ file h. c .before .before .read-chip .ensures file (h .x) (opens-chip file _ _ h _ _ _ _ _ (found-chip file _ _ h _ _ _ _ _ (p .prepare .ensures) _ (t .before .s .given .1))) (tables-chip file _ _ h)
+    λ file h. c .before .before .read-chip .ensures file (h .x) (opens-chip file _ _ h _ _ _ _ _ (found-chip _ _ _ _ _ _ (p .prepare .ensures) _ (t .before .s .given .1))) (tables-chip file _ _ h)
 
 pub read-tables-spec : {M : Type 1} → statement M
 read-tables-spec =

@@ -4,19 +4,13 @@ use Rattle.lines.proofs.hex_words.Statement.{statement}
 use Rattle.lines.proofs.hex_words.Tie as tie
 
 abbrev Inv-loop : tie.InvT-loop
-Inv-loop line₀ used₀ words n i₀ line used i = i ≤ n
+Inv-loop line₀ used₀ words n i₀ line used i = (i ≤ n) × (used ≤ 65536)
 
 abbrev μ-loop : tie.MeasureT-loop
 μ-loop line₀ used₀ words n i₀ line used i = n - i
 
-slice-aggregate-text : tie.Need-slice-aggregate-text Inv-loop μ-loop
-slice-aggregate-text c = search needs
-
-text-requires : tie.Need-text-requires Inv-loop μ-loop
-text-requires c κs = search needs
-
-byte-requires : tie.Need-byte-requires Inv-loop μ-loop
-byte-requires c κs = search needs
+blank-requires : tie.Need-blank-requires Inv-loop μ-loop
+blank-requires c κs = search needs
 
 loop-holds : tie.Need-loop-holds Inv-loop μ-loop
 loop-holds c = search needs
@@ -48,9 +42,7 @@ hex-words-spec =
     (tie.spec
     Inv-loop
     μ-loop
-    slice-aggregate-text
-    text-requires
-    byte-requires
+    blank-requires
     loop-holds
     mul-word
     shared-slice-read-word

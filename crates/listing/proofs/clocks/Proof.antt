@@ -4,10 +4,6 @@ use lib.ListN.{length}
 use borrow.Author.Needs.{needs}
 use Rattle.listing.proofs.clocks.Statement.{statement}
 use Rattle.listing.proofs.clocks.Tie as tie
-use Rattle.listing.proofs.clocks.Reads as reads
-use Rattle.listing.proofs.clocks.Lts as lts
-use Rattle.lines.proofs.text.Reads as text-reads
-use Rattle.listing.proofs.digits.Reads as digits-reads
 
 abbrev Inv-loop : tie.InvT-loop
 Inv-loop play i d line₀ used₀ from₀ t₀ t8 line used from t = (t ≤ d + 1) × (from ≤ 64 * t) × (length t8 ≡ 1)

@@ -4,10 +4,6 @@ use lib.ListN.{length}
 use borrow.Author.Needs.{needs}
 use Rattle.listing.proofs.digits.Statement.{statement}
 use Rattle.listing.proofs.digits.Tie as tie
-use Rattle.listing.proofs.digits.Reads as reads
-use Rattle.listing.proofs.digits.Lts as lts
-use Rattle.chip.proofs.wide8.Reads as wide8-reads
-use Rattle.lines.proofs.field.Reads as field-reads
 
 abbrev Inv-loop : tie.InvT-loop
 Inv-loop play from i line₀ used₀ x₀ t7 line used x = (x ≤ i) × (length t7 ≡ 0)

@@ -1,17 +1,9 @@
 use lib.ListN.{getD-replicate}
 use Rattle.netlist.proofs.Use.{holds}
-use Rattle.structure.proofs.Opening.{tables-limits, tables-pins}
-use Rattle.clocks.proofs.Replies.{found-chip}
+use Rattle.structure.proofs.Opening.{found-chip, tables-limits, tables-pins}
 use borrow.Author.Needs.{needs}
 use Rattle.listing.proofs.list_file.Statement.{statement}
 use Rattle.listing.proofs.list_file.Tie as tie
-use Rattle.listing.proofs.list_file.Reads as reads
-use Rattle.listing.proofs.list_file.Lts as lts
-use Rattle.listing.proofs.list.Reads as list-reads
-use Rattle.listing.proofs.refused.Reads as refused-reads
-use Rattle.netlist.proofs.read.Reads as read-reads
-use Rattle.search.proofs.reach_masks.Reads as reach-masks-reads
-use Rattle.structure.proofs.prepare.Reads as prepare-reads
 
 read-requires : tie.Need-read-requires
 read-requires c κs = search needs
@@ -59,10 +51,10 @@ returns-4 : tie.Need-returns-4
 returns-4 c = search needs
 
 reach-masks-requires : tie.Need-reach-masks-requires
-reach-masks-requires c κs = let h = holds _ _ _ (c .before .before .before .before .before .before .before .before .before .before .before .before .before .before .before .before .before .before .before .before .before .before .before .before .before .read .ensures) (c .before .before .before .before .before .before .before .before .before .before .before .before .before .before .before .before .before .before .before .before .before .before .before .reading2 .given .1) in let S = found-chip _ _ _ h _ _ _ _ _ (c .before .before .before .before .before .before .before .before .before .before .before .prepare .ensures) _ (c .before .before .before .before .before .before .before .before .before .s .given .1) in (tables-limits _ _ _ h, (S .first-pins, S .ordered))
+reach-masks-requires c κs = let h = holds _ _ _ (c .before .before .before .before .before .before .before .before .before .before .before .before .before .before .before .before .before .before .before .before .before .before .before .before .before .read .ensures) (c .before .before .before .before .before .before .before .before .before .before .before .before .before .before .before .before .before .before .before .before .before .before .before .reading2 .given .1) in let S = found-chip _ _ _ _ _ _ (c .before .before .before .before .before .before .before .before .before .before .before .prepare .ensures) _ (c .before .before .before .before .before .before .before .before .before .s .given .1) in (tables-limits _ _ _ h, (S .first-pins, S .ordered))
 
 list-requires : tie.Need-list-requires
-list-requires c κs = let h = holds _ _ _ (c .before .before .before .before .before .before .before .before .before .before .before .before .before .before .before .before .before .before .before .before .before .before .before .before .before .before .before .before .before .before .before .before .before .before .before .before .before .read .ensures) (c .before .before .before .before .before .before .before .before .before .before .before .before .before .before .before .before .before .before .before .before .before .before .before .before .before .before .before .before .before .before .before .before .before .before .before .reading2 .given .1) in let S = found-chip _ _ _ h _ _ _ _ _ (c .before .before .before .before .before .before .before .before .before .before .before .before .before .before .before .before .before .before .before .before .before .before .before .prepare .ensures) _ (c .before .before .before .before .before .before .before .before .before .before .before .before .before .before .before .before .before .before .before .before .before .s .given .1) in record { limits = tables-limits _ _ _ h; pins = tables-pins _ _ _ h; shaped = S; cones = c .before .before .before .before .before .before .before .before .before .before .before .reach-masks .ensures }
+list-requires c κs = let h = holds _ _ _ (c .before .before .before .before .before .before .before .before .before .before .before .before .before .before .before .before .before .before .before .before .before .before .before .before .before .before .before .before .before .before .before .before .before .before .before .before .before .read .ensures) (c .before .before .before .before .before .before .before .before .before .before .before .before .before .before .before .before .before .before .before .before .before .before .before .before .before .before .before .before .before .before .before .before .before .before .before .reading2 .given .1) in let S = found-chip _ _ _ _ _ _ (c .before .before .before .before .before .before .before .before .before .before .before .before .before .before .before .before .before .before .before .before .before .before .before .prepare .ensures) _ (c .before .before .before .before .before .before .before .before .before .before .before .before .before .before .before .before .before .before .before .before .before .s .given .1) in record { limits = tables-limits _ _ _ h; pins = tables-pins _ _ _ h; shaped = S; cones = c .before .before .before .before .before .before .before .before .before .before .before .reach-masks .ensures }
 
 same-length : tie.Need-same-length
 same-length c = search needs

@@ -4,11 +4,12 @@ use native.Mathlib.Omega.{arith}
 use native.Mathlib.Nat.{mul-le-mul}
 use native.Mathlib.Numerals.{add-one}
 use borrow.Author.Needs.{needs}
-use Rattle.chip.specs.Netlist.{Netlist, tabled}
+use Rattle.chip.specs.Netlist.{Netlist}
+use Rattle.chip.specs.Inner.Tables.{tabled}
 use Rattle.chip.specs.Search.{SiteReaches}
 use Rattle.levels.specs.Levels.{Mask}
-use Rattle.search.specs.Walk.{Walkable}
-use Rattle.search.proofs.Walking.{ready-few}
+use Rattle.walk.specs.Walk.{Walkable}
+use Rattle.walk.proofs.Walking.{ready-few}
 use Rattle.search.proofs.Answering.{walkable, reply-16, reply-15}
 use Rattle.search.proofs.search_even.Statement.{statement}
 use Rattle.search.proofs.search_even.Tie as tie

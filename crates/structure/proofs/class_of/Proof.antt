@@ -1,17 +1,10 @@
-use mathlib.Core.Path.{_≡_, refl, sym, ap, _∙_}
-use native.Mathlib.Omega.{arith}
 use borrow.Author.Needs.{needs}
 use lib.ListN.{getD-replicate}
-use Rattle.netlist.proofs.Use.{holds, refuses}
-use Rattle.structure.specs.Opens.{unread}
-use Rattle.structure.specs.Reply.{ClassReply, answers}
-use Rattle.structure.proofs.Opening.{tables-limits, tables-pins, reply-refused, reply-looped, reply-deep, reply-chip}
+use Rattle.netlist.proofs.Use.{holds}
+use Rattle.structure.specs.Reply.{refuses}
+use Rattle.structure.proofs.Opening.{found-looped, found-deep, found-chip, opens-unread, opens-looped, opens-deep, tables-limits, tables-pins, reply-chip}
 use Rattle.structure.proofs.class_of.Statement.{statement}
 use Rattle.structure.proofs.class_of.Tie as tie
-use Rattle.structure.proofs.class_of.Reads as reads
-use Rattle.structure.proofs.class_of.Lts as lts
-use Rattle.netlist.proofs.read.Reads as read-reads
-use Rattle.structure.proofs.prepare.Reads as prepare-reads
 
 read-requires : tie.Need-read-requires
 read-requires c κs = search needs
@@ -20,7 +13,7 @@ enum-known-reading : tie.Need-enum-known-reading
 enum-known-reading c = search needs
 
 returns : tie.Need-returns
-returns c = reply-refused _ _ _ _ (c .before .before .before .read .ensures) (c .before .reading .given .1)
+returns c = refuses (opens-unread _ _ _ _ (c .before .before .before .read .ensures) (c .before .reading .given .1))
 
 enum-known-reading-2 : tie.Need-enum-known-reading-2
 enum-known-reading-2 c = search needs
@@ -45,21 +38,21 @@ returns-2 c =
     let p = c .before .before in
     let k = p .before .before .before .before .before .before .before .before .before .before .before in
     let h = holds _ _ _ (k .before .before .before .read .ensures) (k .before .reading2 .given .1) in
-    reply-looped _ _ _ h _ _ _ _ _ (p .prepare .ensures) (c .enum-told .given .1)
+    refuses (opens-looped _ _ _ h (found-looped _ _ _ _ _ _ (p .prepare .ensures) (c .enum-told .given .1)))
 
 returns-3 : tie.Need-returns-3
 returns-3 c =
     let p = c .before .before .before in
     let k = p .before .before .before .before .before .before .before .before .before .before .before in
     let h = holds _ _ _ (k .before .before .before .read .ensures) (k .before .reading2 .given .1) in
-    reply-deep _ _ _ h _ _ _ _ _ _ (p .prepare .ensures) (c .before .y .given .1)
+    refuses (opens-deep _ _ _ h _ (found-deep _ _ _ _ _ _ (p .prepare .ensures) _ (c .before .y .given .1)))
 
 returns-4 : tie.Need-returns-4
 returns-4 c =
     let p = c .before .before .before in
     let k = p .before .before .before .before .before .before .before .before .before .before .before in
     let h = holds _ _ _ (k .before .before .before .read .ensures) (k .before .reading2 .given .1) in
-    reply-chip _ _ _ h _ _ _ _ _ _ (p .prepare .ensures) (c .before .s .given .1)
+    reply-chip _ _ _ h _ _ _ _ _ (found-chip _ _ _ _ _ _ (p .prepare .ensures) _ (c .before .s .given .1))
 
 pub class-of-spec : {M : Type 1} → statement M
 class-of-spec =

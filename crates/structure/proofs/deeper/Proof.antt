@@ -1,6 +1,6 @@
 use mathlib.Core.Path.{refl}
 use borrow.Author.Needs.{needs}
-use Rattle.chip.specs.Netlist.{tabled}
+use Rattle.chip.specs.Inner.Tables.{tabled}
 use Rattle.structure.proofs.deeper.Statement.{statement}
 use Rattle.structure.proofs.deeper.Tie as tie
 

@@ -1,20 +1,15 @@
-use Prim.Native.Nat.{ℕ, _+_, _-_, _^_, _≤_, _<_}
-use mathlib.Core.Path.{_≡_, refl}
+use Prim.Native.Nat.{ℕ, _-_, _≤_}
 use native.Mathlib.Omega.{arith}
 use borrow.Author.Needs.{needs}
 use lib.ListN.{getD-replicate, replicate}
-use Rattle.chip.specs.Netlist.{Netlist, tabled}
+use Rattle.chip.specs.Netlist.{Netlist}
+use Rattle.chip.specs.Inner.Tables.{tabled}
 use Rattle.levels.proofs.Masks.{first-before}
 use Rattle.blocks.specs.Labels.{labelOf}
 use Rattle.blocks.proofs.Labels.{single-labels}
 use Rattle.structure.proofs.Joining.{Joining, joining-start, joining-more, joining-at, joining-later, joining-depth, joining-deep}
 use Rattle.structure.proofs.join_blocks.Statement.{statement}
 use Rattle.structure.proofs.join_blocks.Tie as tie
-use Rattle.structure.proofs.join_blocks.Reads as reads
-use Rattle.structure.proofs.join_blocks.Lts as lts
-use Rattle.blocks.proofs.single_labels.Reads as single-labels-reads
-use Rattle.structure.proofs.deeper.Reads as deeper-reads
-use Rattle.words.proofs.lowest_bit.Reads as lowest-bit-reads
 
 abbrev Inv-loop : tie.InvT-loop
 Inv-loop i c o n kinds counts firsts nets order low₀ before₀ after₀ e₀ low before after e =

@@ -1,17 +1,12 @@
-use Prim.Native.Nat.{ℕ, _+_, _-_, _≤_, _<_}
+use Prim.Native.Nat.{ℕ, _+_, _-_, _≤_}
 use native.Mathlib.Omega.{arith}
-use borrow.Author.Needs.{needs}
 use lib.ListN.{getD-replicate, replicate}
-use Rattle.chip.specs.Netlist.{Netlist, tabled}
+use Rattle.chip.specs.Netlist.{Netlist}
+use Rattle.chip.specs.Inner.Tables.{tabled}
 use Rattle.levels.proofs.Masks.{first-before}
 use Rattle.structure.proofs.Evenness.{Evening, evening-start, evening-more, evening-done}
 use Rattle.structure.proofs.lowest_uneven.Statement.{statement}
 use Rattle.structure.proofs.lowest_uneven.Tie as tie
-use Rattle.structure.proofs.lowest_uneven.Reads as reads
-use Rattle.structure.proofs.lowest_uneven.Lts as lts
-use Rattle.balance.proofs.conflict.Reads as conflict-reads
-use Rattle.balance.proofs.see.Reads as see-reads
-use Rattle.levels.proofs.level.Reads as level-reads
 
 abbrev Inv-loop : tie.InvT-loop
 Inv-loop i c o n d kinds counts firsts nets order labels seen₀ before₀ after₀ pins₀ lowest₀ e₀ seen before after pins lowest e =

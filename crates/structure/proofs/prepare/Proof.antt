@@ -1,22 +1,13 @@
-use Prim.Native.Nat.{ℕ}
 use mathlib.Core.Path.{refl}
-use native.Mathlib.Omega.{arith}
 use borrow.Author.Needs.{needs}
 use lib.ListN.{getD-replicate}
-use Rattle.chip.specs.Netlist.{Netlist, tabled}
+use Rattle.chip.specs.Netlist.{Netlist}
+use Rattle.chip.specs.Inner.Tables.{tabled}
 use Rattle.order.proofs.Order.{wired, order-free}
 use Rattle.structure.proofs.Evenness.{nets-own}
 use Rattle.structure.proofs.Preparing.{settled-loop, settled-done, depth-over, depth-of, nets-few, blocks-few, blocks-one, shaped}
 use Rattle.structure.proofs.prepare.Statement.{statement}
 use Rattle.structure.proofs.prepare.Tie as tie
-use Rattle.structure.proofs.prepare.Reads as reads
-use Rattle.structure.proofs.prepare.Lts as lts
-use Rattle.blocks.proofs.number_blocks.Reads as number-blocks-reads
-use Rattle.order.proofs.first_pins.Reads as first-pins-reads
-use Rattle.order.proofs.order_cells.Reads as order-cells-reads
-use Rattle.structure.proofs.classify.Reads as classify-reads
-use Rattle.structure.proofs.join_blocks.Reads as join-blocks-reads
-use Rattle.structure.proofs.lowest_uneven.Reads as lowest-uneven-reads
 
 first-pins-requires : tie.Need-first-pins-requires
 first-pins-requires c κs = search needs

@@ -3,9 +3,9 @@ use mathlib.Core.Path.{_≡_, sym}
 use native.Mathlib.Omega.{arith}
 use lib.ListN.{getD}
 use borrow.Author.Needs.{needs}
-use Rattle.chip.specs.Netlist.{tabled}
+use Rattle.chip.specs.Inner.Tables.{tabled}
 use Rattle.chip.proofs.Basics.{net-input, net-cell}
-use Rattle.transform.specs.Put.{tabledBlocks}
+use Rattle.transform.specs.Inner.Put.{tabledBlocks}
 use Rattle.transform.proofs.new_net.Statement.{statement}
 use Rattle.transform.proofs.new_net.Tie as tie
 

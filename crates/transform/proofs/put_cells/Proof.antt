@@ -7,7 +7,7 @@ use borrow.Author.Needs.{needs}
 use Rattle.chip.specs.Netlist.{sumBelow}
 use Rattle.chip.proofs.Basics.{sum-up}
 use Rattle.transform.specs.File.{cellsFile}
-use Rattle.transform.specs.Put.{Put, newChip}
+use Rattle.transform.specs.Inner.Put.{Put, newChip}
 use Rattle.transform.proofs.Lengths.{cellFile, cells-long}
 use Rattle.transform.proofs.Puts.{put-none, put-both, put-more, put-length}
 use Rattle.transform.proofs.put_cells.Statement.{statement}

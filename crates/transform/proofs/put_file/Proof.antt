@@ -1,9 +1,9 @@
 use Prim.Native.Nat.{_+_}
 use native.Mathlib.Omega.{arith}
 use borrow.Author.Needs.{needs}
-use Rattle.chip.specs.Netlist.{tabled}
+use Rattle.chip.specs.Inner.Tables.{tabled}
 use Rattle.chip.specs.Transformed.{transformed}
-use Rattle.transform.specs.Put.{tabledBlocks, newChip}
+use Rattle.transform.specs.Inner.Put.{tabledBlocks, newChip}
 use Rattle.transform.proofs.Lengths.{length-listed, cells-long, file-long}
 use Rattle.transform.proofs.Puts.{put-length, put-wrote}
 use Rattle.transform.proofs.Tables.{put-file, tables-file}

@@ -5,7 +5,7 @@ use native.Mathlib.Omega.{arith}
 use lib.ListN.{length}
 use borrow.Author.Needs.{needs}
 use Rattle.transform.specs.File.{inputsFile}
-use Rattle.transform.specs.Put.{Put}
+use Rattle.transform.specs.Inner.Put.{Put}
 use Rattle.transform.proofs.Lengths.{length-listed}
 use Rattle.transform.proofs.Puts.{put-none, put-byte, put-both, put-more, put-length}
 use Rattle.transform.proofs.put_inputs.Statement.{statement}

@@ -6,7 +6,7 @@ use lib.ListN.{length, getD, length-set}
 use borrow.Author.Needs.{needs}
 use Rattle.chip.specs.Netlist.{sumBelow}
 use Rattle.transform.specs.File.{outputsFile}
-use Rattle.transform.specs.Put.{Put, newChip}
+use Rattle.transform.specs.Inner.Put.{Put, newChip}
 use Rattle.transform.proofs.Lengths.{outputFile}
 use Rattle.transform.proofs.Puts.{put-none, put-byte, put-both, put-more, put-length}
 use Rattle.transform.proofs.put_outputs.Statement.{statement}

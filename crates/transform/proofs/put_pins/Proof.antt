@@ -4,7 +4,7 @@ use mathlib.Core.List.{List, []}
 use native.Mathlib.Omega.{arith}
 use borrow.Author.Needs.{needs}
 use Rattle.transform.specs.File.{word, pinsFile}
-use Rattle.transform.specs.Put.{Put, newChip}
+use Rattle.transform.specs.Inner.Put.{Put, newChip}
 use Rattle.transform.proofs.Lengths.{pins-long}
 use Rattle.transform.proofs.Puts.{put-none, put-more, put-length}
 use Rattle.transform.proofs.put_pins.Statement.{statement}

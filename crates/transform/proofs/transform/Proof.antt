@@ -1,8 +1,7 @@
 use native.Mathlib.Omega.{arith}
 use borrow.Author.Needs.{needs}
-use Rattle.netlist.proofs.Use.{holds, refuses as read-refuses}
-use Rattle.structure.specs.Opens.{unread}
-use Rattle.structure.proofs.Opening.{tables-limits, tables-pins}
+use Rattle.netlist.proofs.Use.{holds}
+use Rattle.structure.proofs.Opening.{opens-unread, tables-limits, tables-pins}
 use Rattle.transform.specs.Reply.{refuses}
 use Rattle.transform.proofs.transform.Statement.{statement}
 use Rattle.transform.proofs.transform.Tie as tie
@@ -14,7 +13,7 @@ enum-known-reading : tie.Need-enum-known-reading
 enum-known-reading c = search needs
 
 returns : tie.Need-returns
-returns c = refuses (unread (read-refuses _ _ _ _ (c .before .before .before .read .ensures) (c .before .reading .given .1)))
+returns c = refuses (opens-unread _ _ _ _ (c .before .before .before .read .ensures) (c .before .reading .given .1))
 
 enum-known-reading-2 : tie.Need-enum-known-reading-2
 enum-known-reading-2 c = search needs

@@ -1,6 +1,8 @@
 use lib.ListN.{getD-replicate}
 use borrow.Author.Needs.{needs}
-use Rattle.transform.proofs.Tables.{answers-9, answers-10, opened-as}
+use Rattle.structure.proofs.Opening.{found-looped, found-deep, found-chip, opens-looped, opens-deep}
+use Rattle.transform.specs.Reply.{refuses}
+use Rattle.transform.proofs.Tables.{opened-as}
 use Rattle.transform.proofs.transform_tables.Statement.{statement}
 use Rattle.transform.proofs.transform_tables.Tie as tie
 
@@ -20,17 +22,17 @@ put-chip-requires : tie.Need-put-chip-requires
 put-chip-requires c κs = search needs
 
 returns : tie.Need-returns
-returns c file reading pads h = answers-9 file _ _ h _ _ _ _ _ _ (c .before .before .prepare .ensures) (c .enum-told .given .1)
+returns c file reading pads h = refuses (opens-looped file _ _ h (found-looped _ _ _ _ _ _ (c .before .before .prepare .ensures) (c .enum-told .given .1)))
 
 returns-2 : tie.Need-returns-2
-returns-2 c file reading pads h = answers-10 file _ _ h _ _ _ _ _ _ _ (c .before .before .before .prepare .ensures) (c .before .y .given .1)
+returns-2 c file reading pads h = refuses (opens-deep file _ _ h _ (found-deep _ _ _ _ _ _ (c .before .before .before .prepare .ensures) _ (c .before .y .given .1)))
 
 same-length : tie.Need-same-length
 same-length c = search needs
 
 returns-3 : tie.Need-returns-3
 returns-3 c file reading pads h =
-    c .before .before .put-chip .ensures file (opened-as file _ _ h _ _ _ _ _ _ (c .before .before .before .before .before .before .before .before .prepare .ensures) (c .before .before .before .before .before .before .s .given .1))
+    c .before .before .put-chip .ensures file (opened-as file _ _ h _ _ _ _ _ (found-chip _ _ _ _ _ _ (c .before .before .before .before .before .before .before .before .prepare .ensures) _ (c .before .before .before .before .before .before .s .given .1)))
 
 pub transform-tables-spec : {M : Type 1} → statement M
 transform-tables-spec =

@@ -1,7 +1,7 @@
 use borrow.Author.Needs.{needs}
 use Rattle.trials.proofs.slot.Statement.{statement}
 use Rattle.trials.proofs.slot.Tie as tie
-use Prim.Native.Nat.{_-_, _≤_, _<_}
+use Prim.Native.Nat.{_≤_, _<_}
 use mathlib.Core.Path.{ap}
 use native.Mathlib.Omega.{arith}
 use lib.ListN.{getD}

@@ -4,7 +4,7 @@ use Rattle.trials.proofs.try_output.Tie as tie
 use mathlib.Core.Path.{_≡_, refl, sym}
 use native.Mathlib.Omega.{arith}
 use lib.ListN.{length}
-use Rattle.chip.specs.Netlist.{tabled}
+use Rattle.chip.specs.Inner.Tables.{tabled}
 use Rattle.faults.specs.Sources.{hits}
 use Rattle.trials.proofs.Setting.{order-few, first-few, pin-known, pin-decided, runs, tells}
 

@@ -1,0 +1,18 @@
+use mathlib.Core.Path.{sym}
+use lib.Seq.{length-take-le}
+use native.Mathlib.Omega.{arith}
+use borrow.Author.Needs.{needs}
+use Rattle.calls.proofs.asked.length.Statement.{statement}
+use Rattle.calls.proofs.asked.length.Tie as tie
+
+number-requires : tie.Need-number-requires
+number-requires c κs = search needs
+
+returns : tie.Need-returns
+returns c = search needs
+
+returns-2 : tie.Need-returns-2
+returns-2 c = (search needs, sym (length-take-le _ _ (omega arith)))
+
+pub length-spec : {M : Type 1} → statement M
+length-spec = tie.close (tie.spec number-requires returns returns-2)

@@ -1,0 +1,73 @@
+-- What is worked out of a netlist once, for every call that follows.
+use Prim.Native.Nat.{ℕ, suc, _≤_, _<_}
+use mathlib.Core.Path.{_≡_}
+use mathlib.Core.List.{List}
+use lib.ListN.{getD}
+use Rattle.chip.specs.Netlist.{Netlist}
+use Rattle.chip.specs.Inner.Tables.{FirstPins}
+use Rattle.chip.specs.Class.{LoopFree, Branch, Depth, Lowest, Prepared, blocks}
+use Rattle.chip.specs.Clocks.{BlockReaches}
+use Rattle.order.specs.Order.{Ordered}
+use Rattle.levels.specs.Levels.{Mask, MasksBefore, AnyReach}
+use Rattle.blocks.specs.Labels.{LevelJoined, BlockTable}
+use Rattle.balance.specs.Balance.{SeenMasks, LowestUneven}
+use Rattle.structure.specs.Opens.{Deep}
+use Rattle.structure.specs.Refusals.{When11}
+use Rattle.structure.specs.declared.Shape.{Shape}
+use Rattle.structure.specs.declared.Depths.{Depths}
+use Rattle.structure.specs.declared.Depths.the-variants.{Is, Over}
+use Rattle.structure.specs.declared.Found.{Found}
+use Rattle.structure.specs.declared.Found.the-variants.{Looped, TooDeep, Chip}
+
+-- one depth further: the masks of the nets for the next, the labels with all pairs at this depth joined, the outputs reached at it
+pub record Deeper (N : Netlist) (e : ℕ) (masks : List ℕ) (low low′ : ℕ → ℕ) (outs : ℕ) : Type 0 where
+  pub next : MasksBefore N (suc e) masks
+  pub joined : LevelJoined N e low low′
+  pub reached : Mask (N .outs) outs (AnyReach N e)
+
+-- z is the lowest output that is too deep
+pub record LowestDeep (N : Netlist) (z : ℕ) : Type 0 where
+  pub deep : Deep N z
+  pub none-below : (y : ℕ) → y < z → ¬ Deep N y
+
+-- the depth with the blocks' lowest pins, or the lowest output that is too deep
+pub record DepthFound (N : Netlist) (low : ℕ → ℕ) (d : ℕ) : Type 0 where
+  pub depth : Depth N d
+  pub lowest : Lowest N low
+  pub shallow : d ≤ 255
+
+abbrev pub DepthIs : Netlist → (ℕ → ℕ) → Depths → Type 0
+DepthIs N low (Is d) = DepthFound N low d
+DepthIs N low (Over z) = LowestDeep N z
+
+-- branches with one label are branches of one input
+abbrev pub OneInput : Netlist → List ℕ → Type 0
+OneInput N labels = (x y p q : ℕ) → Branch N x p → Branch N y q → getD labels p 0 ≡ getD labels q 0 → x ≡ y
+
+-- the lowest input whose branches with one label have two depths to one output; and the outputs that each label reaches
+pub record Evened (N : Netlist) (labels : List ℕ) (d : ℕ) (seen : List ℕ) (r : ℕ) : Type 0 where
+  pub lowest : LowestUneven N labels r
+  pub seen-all : SeenMasks N labels (suc d) seen
+
+-- the class is 1 if a block is uneven, else 2 if an input is, else 3; an input number at least that of the inputs stands for none
+pub record Classified (inputs by-block by-input k : ℕ) : Type 0 where
+  pub one : by-block < inputs → k ≡ 1
+  pub two : inputs ≤ by-block → by-input < inputs → k ≡ 2
+  pub three : inputs ≤ by-block → inputs ≤ by-input → k ≡ 3
+
+-- a chip that is prepared: its tables, its depth, class and number of blocks, and where the class is 1 the place of refusal 11
+pub record Shaped (N : Netlist) (firsts order block reached : List ℕ) (s : Shape) : Type 0 where
+  pub low : ℕ → ℕ
+  pub first-pins : FirstPins N firsts
+  pub ordered : Ordered N order
+  pub prepared : Prepared N (s .depth) low (s .class)
+  pub shallow : s .depth ≤ 255
+  pub count : s .blocks ≡ blocks N low .count
+  pub block-table : BlockTable N low block
+  pub reach-table : (b : ℕ) → b < s .blocks → Mask (N .outs) (getD reached b 0) (λ z. BlockReaches N (blocks N low) z b)
+  pub place : s .class ≡ 1 → When11 N (s .place)
+
+abbrev pub FoundIs : Netlist → List ℕ → List ℕ → List ℕ → List ℕ → Found → Type 0
+FoundIs N firsts order block reached Looped = ¬ LoopFree N
+FoundIs N firsts order block reached (TooDeep z) = LoopFree N × LowestDeep N z
+FoundIs N firsts order block reached (Chip s) = Shaped N firsts order block reached s

@@ -1,0 +1,282 @@
+// Walks the outputs that a fault's site reaches: pattern after pattern, output after output, and the play of a hit.
+ghost use mathlib.Core.Path.{_≡_};
+ghost use mathlib.Core.Logic.{_≢_};
+ghost use mathlib.Core.List.{List};
+ghost use Prim.Native.Nat.{ℕ, suc, _*_, _^_, _≤_, _<_};
+ghost use lib.ListN.{length, getD};
+ghost use Rattle.chip.specs.Netlist.{Netlist, allPins, bit, InLimits};
+ghost use Rattle.chip.specs.Inner.Tables.{tabled, FirstPins};
+ghost use Rattle.chip.specs.Class.{Lowest, blocks};
+ghost use Rattle.chip.specs.Transformed.{flat};
+ghost use Rattle.chip.specs.Faults.{SiteIn};
+ghost use Rattle.chip.specs.declared.Site.the-variants.{Net};
+ghost use Rattle.chip.specs.Search.{SiteReaches, digit};
+ghost use Rattle.order.specs.Order.{Ordered};
+ghost use Rattle.levels.specs.Levels.{Mask};
+ghost use Rattle.trials.specs.Trials.{ReachMasks};
+ghost use Rattle.walk.specs.Walk.{Ready, widthOf, TooWide, Walkable, WalkIs, PatternBytes, Played};
+use chip::Fault;
+use chip::Site;
+use chip::flat_kind;
+use chip::wide;
+use structure::Shape;
+use trials::Trial;
+
+// What the walk answers: the output, the pattern's number and the tries of the first hit, or the tries without one.
+pub enum Walk {
+    Hit(usize, usize, usize),
+    Missed(usize),
+}
+
+// The kinds without their flip-flops.
+fn flatten(kinds: &[u8], flats: &mut [u8])
+    requires { ⌜ (length (now kinds) ≡ 1024) × (length (now flats) ≡ 1024) ⌝ }
+    ensures { λ _. ⌜ ((j : ℕ) → getD (now (flats .exit)) j 0 ≡ flat (getD (now (kinds .entry)) j 0)) ⌝ }
+{
+    let mut j = 0;
+    while j < 1024 {
+        flats[j] = flat_kind(kinds[j]);
+        j += 1;
+    }
+}
+
+// The outputs that each pin reaches at any depth: those that it reaches at depth 0 once no cell is a flip-flop.
+pub fn reach_masks(
+    i: usize,
+    c: usize,
+    o: usize,
+    kinds: &[u8; 1024],
+    counts: &[u8; 1024],
+    firsts: &[u16; 1025],
+    nets: &[u16; 4096],
+    order: &[u16; 1024],
+    cone: &mut [u64; 4096],
+)
+    requires { ⌜ InLimits (tabled i c o (now kinds) (now counts) (now nets)) ⌝ }
+    requires { ⌜ FirstPins (tabled i c o (now kinds) (now counts) (now nets)) (now firsts) ⌝ }
+    requires { ⌜ Ordered (tabled i c o (now kinds) (now counts) (now nets)) (now order) ⌝ }
+    ensures { λ _. ⌜ ReachMasks (tabled i c o (now (kinds .entry)) (now (counts .entry)) (now (nets .entry))) (now (cone .exit)) ⌝ }
+{
+    let mut flats = [0u8; 1024];
+    flatten(kinds, &mut flats);
+    let before = [0u64; 1088];
+    let mut at_net = [0u64; 1088];
+    levels::level(
+        i,
+        c,
+        o,
+        0,
+        &flats,
+        counts,
+        firsts,
+        nets,
+        order,
+        &before,
+        cone,
+        &mut at_net,
+    );
+}
+
+// The outputs that some pin that names the net reaches.
+fn net_outputs(n: usize, nets: &[u16; 4096], cone: &[u64; 4096], net: usize) -> u64
+    requires { ⌜ n ≤ 4096 ⌝ }
+    ensures { λ r. ⌜ ((N : Netlist) → n ≡ allPins N → ((p : ℕ) → N .net p ≡ getD (now (nets .entry)) p 0) → ReachMasks N (now (cone .entry)) → Mask (N .outs) r (SiteReaches N (Net net))) ⌝ }
+{
+    let mut all = 0u64;
+    let mut p = 0;
+    while p < n {
+        if wide(nets[p]) == net {
+            all = all | cone[p];
+        }
+        p += 1;
+    }
+    all
+}
+
+// The outputs that the site reaches.
+pub fn site_outputs(n: usize, nets: &[u16; 4096], cone: &[u64; 4096], site: Site) -> u64
+    requires { ⌜ n ≤ 4096 ⌝ }
+    ensures { λ r. ⌜ ((N : Netlist) → n ≡ allPins N → SiteIn N site → ((p : ℕ) → N .net p ≡ getD (now (nets .entry)) p 0) → ReachMasks N (now (cone .entry)) → Mask (N .outs) r (SiteReaches N site)) ⌝ }
+{
+    match site {
+        Site::Net(k) => net_outputs(n, nets, cone, k),
+        Site::Pin(p) => {
+            if n <= p {
+                return 0;
+            }
+            cone[p]
+        }
+    }
+}
+
+// How many of the first b blocks reach output z.
+fn width_of(b: usize, z: usize, reached: &[u64; 4160]) -> usize
+    requires { ⌜ (b ≤ 4160) × (z < 64) ⌝ }
+    ensures { λ r. ⌜ r ≡ widthOf b (now (reached .entry)) z ⌝ }
+{
+    let mut w = 0;
+    let mut k = 0;
+    while k < b {
+        if words::has_bit(reached[k], z) {
+            w += 1;
+        }
+        k += 1;
+    }
+    w
+}
+
+// The lowest of the o outputs that is in the word and has more than 16 blocks behind it, or o.
+pub fn too_wide(o: usize, b: usize, outs: u64, reached: &[u64; 4160]) -> usize
+    requires { ⌜ (o ≤ 64) × (b ≤ 4160) ⌝ }
+    ensures { λ r. ⌜ TooWide o b outs (now (reached .entry)) r ⌝ }
+{
+    let mut z = 0;
+    while z < o {
+        if words::has_bit(outs, z) {
+            if 16 < width_of(b, z, reached) {
+                return z;
+            }
+        }
+        z += 1;
+    }
+    z
+}
+
+// How many patterns there are for output z, of which at most 16 blocks reach it.
+fn pattern_count(b: usize, z: usize, reached: &[u64; 4160]) -> usize
+    requires { ⌜ (b ≤ 4160) × (z < 64) × (widthOf b (now reached) z ≤ 16) ⌝ }
+    ensures { λ r. ⌜ (r ≡ 2 ^ widthOf b (now (reached .entry)) z) × (r ≤ 65536) ⌝ }
+{
+    let w = width_of(b, z, reached);
+    1usize << w
+}
+
+// Walks the outputs of the word, lowest first, and counts the tries: up to and including the first hit, or all.
+pub fn walk_outputs(
+    i: usize,
+    c: usize,
+    o: usize,
+    n: usize,
+    s: Shape,
+    fault: Fault,
+    outs: u64,
+    kinds: &[u8; 1024],
+    counts: &[u8; 1024],
+    firsts: &[u16; 1025],
+    nets: &[u16; 4096],
+    order: &[u16; 1024],
+    block: &[u16; 4096],
+    reached: &[u64; 4160],
+    cone: &[u64; 4096],
+) -> Walk
+    requires { ⌜ Ready (tabled i c o (now kinds) (now counts) (now nets)) n s (now firsts) (now order) (now block) (now reached) (now cone) ⌝ }
+    requires { ⌜ Walkable (tabled i c o (now kinds) (now counts) (now nets)) s fault outs (now reached) ⌝ }
+    ensures { λ r. ⌜ ((low : ℕ → ℕ) → Lowest (tabled i c o (now (kinds .entry)) (now (counts .entry)) (now (nets .entry))) low
+        → WalkIs (tabled i c o (now (kinds .entry)) (now (counts .entry)) (now (nets .entry)))
+        (blocks (tabled i c o (now (kinds .entry)) (now (counts .entry)) (now (nets .entry))) low) fault outs (now (reached .entry)) r) ⌝ }
+{
+    let mut tries = 0;
+    let mut z = 0;
+    while z < o {
+        if words::has_bit(outs, z) {
+            match trials::try_output(
+                i,
+                c,
+                o,
+                n,
+                z,
+                s.blocks,
+                kinds,
+                counts,
+                firsts,
+                nets,
+                order,
+                block,
+                reached,
+                cone,
+                fault,
+            ) {
+                Trial::Shows(m) => {
+                    return Walk::Hit(z, m, tries + (m + 1));
+                }
+                Trial::Never => {}
+            }
+            tries += pattern_count(s.blocks, z, reached);
+        }
+        z += 1;
+    }
+    Walk::Missed(tries)
+}
+
+// The byte of bit w of a number.
+fn digit_byte(m: u64, w: usize) -> u8
+    requires { ⌜ w < 64 ⌝ }
+    ensures { λ r. ⌜ r ≡ bit (digit w m) ⌝ }
+{
+    if words::has_bit(m, w) { 1 } else { 0 }
+}
+
+// Pattern m for output z as a byte for each of the b blocks: the lowest block that reaches z has the lowest bit, and the others are 0.
+fn pattern_bytes(b: usize, z: usize, m: u64, reached: &[u64; 4160], bytes: &mut [u8])
+    requires { ⌜ (b ≤ 4160) × (z < 64) × (widthOf b (now reached) z ≤ 16) ⌝ }
+    requires { ⌜ b ≤ length (now bytes) ⌝ }
+    ensures { λ _. ⌜ PatternBytes b z m (now (reached .entry)) (now (bytes .entry)) (now (bytes .exit)) ⌝ }
+{
+    let mut w = 0;
+    let mut k = 0;
+    while k < b {
+        let mut byte = 0u8;
+        if words::has_bit(reached[k], z) {
+            byte = digit_byte(m, w);
+            w += 1;
+        }
+        bytes[k] = byte;
+        k += 1;
+    }
+}
+
+// Sets the play of pattern m for output z.
+pub fn play_pattern(
+    i: usize,
+    c: usize,
+    o: usize,
+    n: usize,
+    z: usize,
+    m: usize,
+    s: Shape,
+    kinds: &[u8; 1024],
+    counts: &[u8; 1024],
+    firsts: &[u16; 1025],
+    nets: &[u16; 4096],
+    order: &[u16; 1024],
+    block: &[u16; 4096],
+    reached: &[u64; 4160],
+    play: &mut [u8],
+)
+    requires { ⌜ ((cone : List ℕ) × Ready (tabled i c o (now kinds) (now counts) (now nets)) n s (now firsts) (now order) (now block) (now reached) cone) ⌝ }
+    requires { ⌜ (s .class ≢ 1) × (z < o) × (widthOf (s .blocks) (now reached) z ≤ 16) × (suc (s .depth) * i ≤ length (now play)) ⌝ }
+    ensures { λ _. ⌜ ((low : ℕ → ℕ) → Lowest (tabled i c o (now (kinds .entry)) (now (counts .entry)) (now (nets .entry))) low
+        → Played (tabled i c o (now (kinds .entry)) (now (counts .entry)) (now (nets .entry)))
+        (blocks (tabled i c o (now (kinds .entry)) (now (counts .entry)) (now (nets .entry))) low)
+        (s .depth) z m (now (reached .entry)) (now (play .entry)) (now (play .exit))) ⌝ }
+{
+    let b = s.blocks;
+    let mut bytes = [0u8; 4160];
+    pattern_bytes(b, z, m as u64, reached, &mut bytes);
+    sweeps::set_play(
+        i,
+        c,
+        o,
+        n,
+        s.depth,
+        z,
+        kinds,
+        counts,
+        firsts,
+        nets,
+        order,
+        block,
+        &bytes[..b],
+        play,
+    );
+}
