@@ -1,7 +1,6 @@
 """The calls of each code: drawn, answered by the simulator, and compared with the program `calls`."""
 
 import random
-from pathlib import Path
 
 from simulator import generators as g
 from simulator import programs
@@ -12,19 +11,12 @@ from simulator.hits import MUST, hits
 from simulator.modes import BY_DEFINITION, FIRST
 from simulator.tally import Tally
 
-CODES = Path(__file__).resolve().parents[1] / "codes.txt"
-
 # The listing's netlist, P8, and one with several inputs, outputs and kinds.
 SMALL_FILES = tuple(map(bytes.fromhex, (
     "0100 01 0200 0801 0000 0602 0000 0100 0100 02 0200",
     "0100 01 0300 0001 0000 0801 0100 0602 0100 0200 0100 02 0300",
     "0200 01 02 0300 0202 0000 0100 0901 0200 0603 0300 0000 0200 0200 03 0300 04 0400",
 )))
-
-
-def listed_codes():
-    """The codes that the program has to know by now."""
-    return [int(line) for line in CODES.read_text().split()]
 
 
 def draw_files(volumes):
@@ -65,16 +57,13 @@ def compare(tally, calls, lines):
 
 
 def part(codes, calls):
-    """Some codes: the hits are asserted in any case, the program is compared on the codes that it has to know."""
+    """Some codes: what must be hit is hit, and the program answers what the simulator answers."""
     tally = Tally("calls of " + ", ".join(f"code {code} ({NAMES[code]})" for code in codes))
     lines = [answer(call, FIRST) for call in calls]
     for call, line in zip(calls, lines):
         tally.hit(*((call.code, name) for name in hits(call, line)))
     tally.must_hit((code, name) for code in codes for name in MUST[code])
-    if programs.is_listed("calls"):
-        known = [(call, line) for call, line in zip(calls, lines) if call.code in listed_codes()]
-        if known:
-            compare(tally, *zip(*known))
+    compare(tally, calls, lines)
     if codes == (READ,):
         for call, line in zip(calls, lines):
             tally.equal(line, answer(call, BY_DEFINITION), lambda: f"netlist {call.file.hex()}\n  read by definition")
@@ -107,11 +96,9 @@ def bad_inputs(codes):
 def bad_calls():
     """After input that is no call the program ends with `bad call`, and the lines before it stand."""
     tally = Tally("bad calls")
-    if not programs.is_listed("calls"):
-        return tally
     before = sample_call(READ)
     wanted = f"{answer(before, FIRST)}\nbad call\n".encode()
-    for data in bad_inputs(listed_codes()):
+    for data in bad_inputs(FIELDS):
         try:
             wrote, _ = programs.run("calls", encode(before) + data)
         except programs.NoProgram as missing:
@@ -121,18 +108,7 @@ def bad_calls():
     return tally
 
 
-def codes_known():
-    """That the program is compared on something, and on nothing that is no code."""
-    tally = Tally("codes.txt")
-    codes = listed_codes()
-    tally.case(set(codes) <= set(FIELDS) and len(set(codes)) == len(codes), lambda: f"codes {codes}")
-    tally.case(READ in codes or not programs.is_listed("calls"),
-               lambda: "crates.txt lists calls, and code 0 is not compared")
-    return tally
-
-
 def parts(volumes):
-    yield codes_known()
     yield part((READ,), [Call(READ, file) for file in draw_files(volumes)])
     yield part((CLASS,), draw_calls(random.Random(volumes.seed + 1), (CLASS,), volumes.classes, each=1))
     yield part((TRANSFORM, SET, READ_BACK),

@@ -36,18 +36,15 @@ def hits(text):
 
 
 def parts(volumes):
-    tally = Tally("listings")
-    listed = programs.is_listed("listing")
+    tally = Tally("listings, compared with the program")
     for file in draw_files(volumes):
         text = FIRST.listing(file)
         tally.hit(*hits(text))
-        if listed:
-            try:
-                wrote, status = programs.run("listing", file)
-            except programs.NoProgram as missing:
-                tally.fail(str(missing))
-                break
-            tally.equal((text.encode(), 0), (wrote, status), lambda: f"netlist {file.hex()}\n  listing")
+        try:
+            wrote = programs.run("listing", file)
+        except programs.NoProgram as missing:
+            tally.fail(str(missing))
+            break
+        tally.equal((text.encode(), 0), wrote, lambda: f"netlist {file.hex()}\n  listing")
     tally.must_hit(MUST)
-    tally.name += ", compared with the program" if listed else ""
     yield tally

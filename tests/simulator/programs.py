@@ -11,14 +11,7 @@ ROOT = Path(__file__).resolve().parents[2]
 
 
 class NoProgram(Exception):
-    """A program that is listed and cannot be run."""
-
-
-def is_listed(name):
-    """Whether crates.txt has the crate."""
-    crates = ROOT / "crates.txt"
-    lines = crates.read_text().splitlines() if crates.exists() else []
-    return any(line.split("#")[0].split(":")[0].strip() == name for line in lines)
+    """A program that cannot be run."""
 
 
 def kit_tools():
@@ -36,7 +29,7 @@ def start_words(name):
     """The words that start a program: an emulator where the machine needs one, the loader, the program."""
     program = ROOT / "target" / "bin" / name
     if not program.exists():
-        raise NoProgram(f"crates.txt lists {name}, and target/bin/{name} is missing")
+        raise NoProgram(f"target/bin/{name} is missing")
     tools = kit_tools()
     emulator = tools / "bin" / "qemu-x86_64"
     words = [tools / "lib" / "ld-linux-x86-64.so.2", "--library-path", tools / "lib", program]
