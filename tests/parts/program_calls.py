@@ -108,11 +108,26 @@ def bad_calls():
     return tally
 
 
-def parts(volumes):
+def reads(volumes):
     yield part((READ,), [Call(READ, file) for file in draw_files(volumes)])
+
+
+def classes(volumes):
     yield part((CLASS,), draw_calls(random.Random(volumes.seed + 1), (CLASS,), volumes.classes, each=1))
+
+
+def settings(volumes):
     yield part((TRANSFORM, SET, READ_BACK),
                draw_calls(random.Random(volumes.seed + 2), (TRANSFORM, SET, READ_BACK), volumes.settings, each=6))
+
+
+def checks(volumes):
     yield part((CHECK,), draw_calls(random.Random(volumes.seed + 3), (CHECK,), volumes.checks))
+
+
+def searches(volumes):
     yield part((SEARCH,), draw_calls(random.Random(volumes.seed + 4), (SEARCH,), volumes.searches))
+
+
+def bad(_):
     yield bad_calls()
