@@ -1,8 +1,8 @@
-"""The worked examples of 01, in both modes."""
+"""The worked examples of 01, and of W2 what was wrong told apart, in both modes."""
 
 from itertools import product
 
-from simulator.calls import CHECK, CLASS, READ, SEARCH, SET, TRANSFORM, Call, answer
+from simulator.calls import CHECK, CLASS, READ, READ_BACK, SEARCH, SET, TRANSFORM, Call, answer
 from simulator.definition import calls as definition
 from simulator.faults import NET, all_faults
 from simulator.generators import Draft
@@ -43,6 +43,7 @@ P6 = file_of(1, [(NOT, 0), (AND, 0, 1)], [2])
 P7 = file_of(1, [(DFF, 0)], [1, 0])
 P8 = file_of(1, [(BUF, 0), (DFF, 1), (XOR, 1, 2)], [3])
 P9 = file_of(1, [(DFF, 1)], [1])
+PAIR = file_of(2, [(AND, 0, 1)], [2])
 
 
 def chain_of(length):
@@ -80,7 +81,7 @@ def known_lines():
     yield "P8", Call(CLASS, P8), "class 1 depth 1 blocks 1"
     for fault in all_faults(read(P8)):
         yield "P8", search(P8, fault.sort, fault.number, fault.stuck, 2), "refused 11 at 0 eeee"
-    yield "P9", Call(CLASS, P9), "refused 9 at 0"
+    yield "P9", Call(CLASS, P9), "refused 9 at 1"
     yield "P10", Call(READ, b""), "refused 1 at 0"
     yield "P10", Call(CLASS, b""), "refused 1 at 0"
     yield "255 flip-flops", Call(CLASS, chain_of(255)), "class 3 depth 255 blocks 1"
@@ -90,13 +91,57 @@ def known_lines():
     yield "seventeen", search(cone_of(17), NET, 19, 0, 17), "refused 16 at 0 " + "ee" * 17
 
 
+def told_apart():
+    """Calls with a wrong length (14), a byte above 1 (18) or a wrong clock (19), alone and with others of these.
+
+    The listing's circuit has one input, two blocks and d 1; P8 is class 1; the pair has two inputs, two blocks and d 0.
+    """
+    for fields, line in (
+            ((0, b"\1", 2), "refused 14 at 1 eeee"),
+            ((0, b"", 0), "refused 14 at 0 -"),
+            ((0, b"\1\0\2", 1), "refused 14 at 3 ee"),
+            ((0, b"\0\2", 1), "refused 18 at 1 ee"),
+            ((0, b"\377\2", 2), "refused 18 at 0 eeee"),
+            ((1, b"\2", 0), "refused 13 at 0 -")):
+        yield Call(SET, LISTING_FILE, fields), line
+    yield Call(SET, P8, (0, b"\2\2", 0)), "refused 11 at 0 -"
+    for fields, line in (
+            ((0, b"\1\0", 1, 3), "read 2 0100ee"),
+            ((0, b"\1\0", 1, 1), "refused 15 at 2 ee"),
+            ((0, b"\1\0", 0, 1), "refused 19 at 2 ee"),
+            ((0, b"\1\0", 2, 2), "refused 19 at 2 eeee"),
+            ((0, b"\1\0\1", 0, 2), "refused 19 at 3 eeee"),
+            ((0, b"\1", 1, 2), "refused 19 at 1 eeee"),
+            ((0, b"", 1, 2), "refused 19 at 0 eeee"),
+            ((0, b"", 0, 0), "refused 19 at 0 -"),
+            ((0, b"\0\1\2", 0, 0), "refused 18 at 2 -"),
+            ((0, bytes(1024), 1024, 2), "refused 19 at 1024 eeee"),
+            ((0, bytes(1024), 1023, 2), "read 2 0000"),
+            ((0, bytes(1023) + b"\2", 1024, 2), "refused 18 at 1023 eeee"),
+            ((0, b"\2" + bytes(1024), 0, 0), "refused 14 at 1025 -"),
+            ((1, b"\2", 0, 0), "refused 13 at 0 -")):
+        yield Call(READ_BACK, LISTING_FILE, fields), line
+    yield Call(READ_BACK, P8, (0, b"\2", 5, 0)), "refused 11 at 0 -"
+    yield Call(READ_BACK, PAIR, (0, b"\0\0\2", 5, 2)), "refused 14 at 3 eeee"
+    yield Call(READ_BACK, PAIR, (0, bytes(2050), 0, 2)), "refused 14 at 2050 eeee"
+    for fields, line in (
+            ((NET, 0, 0, b"\1\1"), "shown clock 0 output 0"),
+            ((NET, 0, 0, b"\1\1\2"), "refused 14 at 3"),
+            ((NET, 0, 0, b"\2" + bytes(2049)), "refused 14 at 2050"),
+            ((NET, 0, 0, b"\1\1\1\2\2\0"), "refused 18 at 3"),
+            ((NET, 3, 0, b"\2"), "refused 12 at 0"),
+            ((NET, 2, 2, b"\2\2"), "refused 12 at 0")):
+        yield Call(CHECK, PAIR, fields), line
+
+
 def parts(_):
     tally = Tally("worked examples, in both modes")
-    for name, call, line in known_lines():
+    for name, call, line in [*known_lines(), *(("W2", call, line) for call, line in told_apart())]:
         for mode in (FIRST, BY_DEFINITION):
             tally.equal(line, answer(call, mode), lambda: f"{name}: netlist {call.file.hex()}\n  call   {call}")
     for mode in (FIRST, BY_DEFINITION):
         tally.equal(LISTING_TEXT, mode.listing(LISTING_FILE), lambda: "the listing's text")
+        tally.equal("refused 9 at 1\n", mode.listing(P9), lambda: "the listing's line for P9")
     late = Call(CHECK, chain_of(255), (NET, 0, 0, b"\1" + bytes(255)))
     tally.equal("shown clock 255 output 0", answer(late, FIRST), lambda: f"call {late}")
     for fault in all_faults(read(P6)):

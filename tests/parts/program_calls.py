@@ -4,8 +4,8 @@ import random
 
 from simulator import generators as g
 from simulator import programs
-from simulator.calls import (CHECK, CLASS, FIELDS, LONGEST, NAMES, READ, READ_BACK, SEARCH, SET, TRANSFORM, Call,
-                             answer, encode)
+from simulator.calls import (CHECK, CLASS, FIELDS, LONGEST, NAMES, READ, READ_BACK, SEARCH, SET, STRINGS, TRANSFORM,
+                             Call, answer, encode)
 from simulator.draw import draw_calls
 from simulator.hits import MUST, hits
 from simulator.modes import BY_DEFINITION, FIRST
@@ -51,8 +51,8 @@ def compare(tally, calls, lines):
     got = wrote.decode("ascii", "replace").split("\n")
     tally.equal("", got.pop(), lambda: "the last line of the program calls is not ended")
     tally.equal((0, len(calls)), (status, len(got)), lambda: "exit status and number of lines of the program calls")
-    for call, wanted, line in zip(calls, lines, got):
-        tally.equal(wanted, line, lambda: f"netlist {call.file.hex()}\n  call   {call}")
+    for number, (call, wanted, line) in enumerate(zip(calls, lines, got)):
+        tally.equal(wanted, line, lambda: f"call {number}, netlist {call.file.hex()}\n  call   {call}")
     tally.name += f", {len(calls)} compared with the program"
 
 
@@ -72,7 +72,7 @@ def part(codes, calls):
 
 def sample_call(code, changed=None, value=None):
     """A call of a code on a small file, with one field changed."""
-    fields = {name: b"\1" if name in ("pattern", "play") else 1 for name in FIELDS[code]}
+    fields = {name: b"\1" if name in STRINGS else 1 for name in FIELDS[code]}
     if changed:
         fields[changed] = value
     return Call(code, SMALL_FILES[0], tuple(fields.values()))
@@ -85,7 +85,7 @@ def bad_inputs(codes):
         yield from (whole[:length] for length in range(1, len(whole)))
         yield encode(Call(code, bytes(LONGEST + 1), sample_call(code).fields))
         for name in FIELDS[code]:
-            if name in ("pattern", "play"):
+            if name in STRINGS:
                 yield encode(sample_call(code, name, bytes(LONGEST + 1)))
             elif name == "room":
                 yield encode(sample_call(code, name, LONGEST + 1))

@@ -1,10 +1,12 @@
-"""Each slip of 01, put into the first mode: the comparison of calls has to catch it, and so has the second mode."""
+"""Each slip, put into the first mode: the comparison of calls has to catch it, and so has the second mode."""
 
 import random
 
 from parts.two_modes import draw_small
+from simulator import generators as g
 from simulator.calls import CHECK, CLASS, READ_BACK, SEARCH, SET, TRANSFORM, answer
 from simulator.draw import draw_call
+from simulator.looped import looped
 from simulator.modes import BY_DEFINITION, FIRST
 from simulator.mutants import SLIPS, slipped
 from simulator.tally import Tally
@@ -22,7 +24,7 @@ def caught(slip, calls, right):
 
 def parts(volumes):
     rng = random.Random(volumes.seed + 20)
-    files = [draw_small(rng) for _ in range(volumes.slips)]
+    files = [draw_small(rng) for _ in range(volumes.slips)] + [looped(rng, g.SMALL) for _ in range(volumes.slips // 4)]
     calls = [draw_call(rng, code, file) for file in files for code in CODES]
     right = [answer(call, FIRST) for call in calls]
     for slip in SLIPS:

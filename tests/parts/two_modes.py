@@ -7,7 +7,8 @@ from simulator.calls import CHECK, CLASS, READ_BACK, SEARCH, SET, TRANSFORM, ans
 from simulator.definition import calls as definition
 from simulator.draw import chip_of, draw_call
 from simulator.faults import Found, all_faults
-from simulator.hits import hits, is_chain
+from simulator.hits import LOOPS, hits, is_chain
+from simulator.looped import looped
 from simulator.modes import BY_DEFINITION, FIRST
 from simulator.reading import read
 from simulator.structure import prepare
@@ -15,15 +16,17 @@ from simulator.tally import Tally
 
 MUST = ["refused 9", "class 1", "class 2", "class 3", "chain of joined branches", "found", "untestable",
         "stuck input of several blocks", "dead branch", "input without branches", "shown", "not seen", "set", "read",
-        "written"]
+        "written", "refused 14", "refused 18", "refused 19"] + LOOPS
 
 
 def draw_small(rng):
     """A small netlist that the second mode can do."""
     while True:
         shape = rng.random()
-        if shape < 0.04:
-            file = g.with_loop(rng, g.SMALL)
+        if shape < 0.03:
+            file = g.with_back_pins(rng, g.SMALL)
+        elif shape < 0.1:
+            file = looped(rng, g.SMALL)
         elif shape < 0.6:
             file = g.balanced_or_internally(rng, g.SMALL)
         else:

@@ -1,6 +1,7 @@
 """The other end of the program `calls`: calls as bytes, and the line that a mode answers to a call."""
 
 from dataclasses import dataclass
+from io import BytesIO
 
 from simulator.faults import Fault, Found
 from simulator.reading import Refused
@@ -15,6 +16,7 @@ FIELDS = {
     CHECK: ("sort", "number", "stuck", "play"),
     SEARCH: ("sort", "number", "stuck", "room"),
 }
+STRINGS = ("file", "pattern", "play")  # the other fields are numbers
 NAMES = {READ: "read", CLASS: "class", TRANSFORM: "transform", SET: "set", READ_BACK: "read back",
          CHECK: "check", SEARCH: "search"}
 FILL = 238
@@ -59,6 +61,39 @@ def encode(call):
         else:
             parts.append(four_bytes(value))
     return b"".join(parts)
+
+
+def take(stream, count):
+    """So many bytes of a call; ValueError if it is cut before them."""
+    part = stream.read(count)
+    if len(part) < count:
+        raise ValueError("cut inside a call")
+    return part
+
+
+def take_number(stream, most=2**32 - 1):
+    """A number of a call; ValueError if it is beyond what the call may have."""
+    number = int.from_bytes(take(stream, 4), "little")
+    if number > most:
+        raise ValueError(f"a length of {number} in a call")
+    return number
+
+
+def take_field(stream, name):
+    if name in STRINGS:
+        return take(stream, take_number(stream, LONGEST))
+    return take_number(stream, LONGEST) if name == "room" else take_number(stream)
+
+
+def decode(data):
+    """The calls that some bytes are, in order; ValueError from where they are none."""
+    stream = BytesIO(data)
+    while first := stream.read(1):
+        code = first[0]
+        if code not in FIELDS:
+            raise ValueError(f"no call has code {code}")
+        file = take_field(stream, "file")
+        yield Call(code, file, tuple(take_field(stream, name) for name in FIELDS[code]))
 
 
 def hex_of(data):

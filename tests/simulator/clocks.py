@@ -13,19 +13,25 @@ def need_output(chip, z):
 
 
 def need_bits(data):
-    """Refusal 14 for a byte above 1."""
+    """Refusal 18."""
     for at, byte in enumerate(data):
         if byte > 1:
-            raise Refused(14, at)
+            raise Refused(18, at)
 
 
 def need_play(chip, play):
-    """Refusal 14 for a play; returns its number of clocks."""
+    """Refusals 14 and 18 for a play; returns its number of clocks."""
     clocks, rest = divmod(len(play), chip.netlist.inputs)
     if rest or clocks > MOST_CLOCKS:
         raise Refused(14, len(play))
     need_bits(play)
     return clocks
+
+
+def need_clock(chip, clock, clocks):
+    """Refusal 19."""
+    if not chip.depth <= clock < clocks:
+        raise Refused(19, clocks)
 
 
 def places(chip, z):
@@ -65,8 +71,7 @@ def read_back(data, z, play, clock, buffer):
     need_output(chip, z)
     chip.need_class()
     clocks = need_play(chip, play)
-    if not chip.depth <= clock < clocks:
-        raise Refused(14, clocks)
+    need_clock(chip, clock, clocks)
     length = len(chip.blocks)
     if len(buffer) < length:
         raise Refused(15, length)

@@ -4,6 +4,7 @@ from simulator import clocks, transform
 from simulator import generators as g
 from simulator.calls import CHECK, CLASS, LONGEST, READ_BACK, SEARCH, SET, TRANSFORM, Call
 from simulator.faults import NET, PIN
+from simulator.looped import largest_looped, looped
 from simulator.reading import Refused, write
 from simulator.structure import is_flip_flop, prepare
 
@@ -15,7 +16,9 @@ SUPPLIES = (
     (20, lambda rng: g.balanced_or_internally(rng, g.SMALL)),
     (10, lambda rng: g.readable(rng, g.MIDDLE)),
     (8, lambda rng: g.damaged(rng, g.readable(rng, g.SMALL))),
-    (4, lambda rng: g.with_loop(rng, g.MIDDLE)),
+    (2, lambda rng: g.with_back_pins(rng, g.MIDDLE)),
+    (3, lambda rng: looped(rng, g.SMALL)),
+    (4, lambda rng: looped(rng, g.MIDDLE)),
     (3, lambda rng: g.finish(g.unbalanced(rng, g.MIDDLE), rng)),
     (3, lambda rng: g.cone(rng, rng.choice((15, 16, 17)))),
     (2, lambda rng: g.with_blocks(rng, rng.choice((63, 64, 65, 66)))),
@@ -31,8 +34,9 @@ def any_file(rng):
 
 
 def largest_files(rng):
-    """Netlists of the largest sizes: with cones of at most 16 blocks, and with wider ones."""
-    return [g.largest(rng).file(rng), g.largest(rng).shuffled(rng).file(rng), g.largest(rng, groups=2).file(rng)]
+    """Netlists of the largest sizes: with loops, with cones of at most 16 blocks, and with wider ones."""
+    return [largest_looped(rng), g.largest(rng).file(rng), g.largest(rng).shuffled(rng).file(rng),
+            g.largest(rng, groups=2).file(rng)]
 
 
 def chip_of(file):
@@ -52,6 +56,11 @@ def spoil_bytes(rng, data):
     for _ in range(rng.randint(1, 2) if data else 0):
         data[rng.randrange(len(data))] = rng.choice((2, 3, 128, 255))
     return data
+
+
+def few_bytes(rng):
+    """A string for a file that reading refuses; a byte above 1 now and then, which must not be looked at."""
+    return bytes(rng.choices((0, 1, 2), (5, 5, 2), k=rng.randint(0, 3)))
 
 
 def draw_room(rng, needed):
@@ -85,7 +94,7 @@ def draw_play(rng, chip):
     play = bits(rng, number * inputs)
     if rng.random() < 0.06:
         play = bits(rng, max(0, len(play) + rng.choice((-1, 1))))
-    if rng.random() < 0.06:
+    if rng.random() < (0.06 if number < clocks.MOST_CLOCKS else 0.5):
         spoil_bytes(rng, play)
     return bytes(play[:LONGEST])
 
@@ -149,20 +158,18 @@ def draw_call(rng, code, file):
         return Call(code, file, (draw_room(rng, needed),))
     if code == SET:
         if chip is None:
-            return Call(code, file, (rng.randint(0, 2), bytes(bits(rng, rng.randint(0, 3))), rng.randint(0, 9)))
+            return Call(code, file, (rng.randint(0, 2), few_bytes(rng), rng.randint(0, 9)))
         return Call(code, file, (draw_output(rng, chip), draw_pattern(rng, chip),
                                  draw_room(rng, clocks.play_length(chip))))
     if code == READ_BACK:
         if chip is None:
-            return Call(code, file, (rng.randint(0, 2), bytes(bits(rng, rng.randint(0, 3))), rng.randint(0, 3),
-                                     rng.randint(0, 9)))
+            return Call(code, file, (rng.randint(0, 2), few_bytes(rng), rng.randint(0, 3), rng.randint(0, 9)))
         play = draw_play(rng, chip)
         return Call(code, file, (draw_output(rng, chip), play, draw_clock(rng, chip, play),
                                  draw_room(rng, len(chip.blocks))))
     if code == CHECK:
         if chip is None:
-            return Call(code, file, (rng.randint(0, 1), rng.randint(0, 3), rng.randint(0, 2),
-                                     bytes(bits(rng, rng.randint(0, 3)))))
+            return Call(code, file, (rng.randint(0, 1), rng.randint(0, 3), rng.randint(0, 2), few_bytes(rng)))
         return Call(code, file, (*draw_fault(rng, chip), draw_play(rng, chip)))
     if chip is None:
         return Call(SEARCH, file, (rng.randint(0, 1), rng.randint(0, 3), rng.randint(0, 2), rng.randint(0, 9)))

@@ -34,10 +34,8 @@ class Draft:
     def nets(self):
         return range(self.inputs + len(self.cells))
 
-    def shuffled(self, rng):
-        """The same netlist with its cells in another order, so that cells name later nets."""
-        order = list(range(len(self.cells)))
-        rng.shuffle(order)
+    def reordered(self, order):
+        """The same netlist with its cells in the order given."""
         new = list(range(self.inputs)) + [0] * len(order)
         for at, j in enumerate(order):
             new[self.inputs + j] = self.inputs + at
@@ -46,6 +44,10 @@ class Draft:
             draft.cell(self.kinds[j], *(new[net] for net in self.cells[j]))
         draft.outputs = [new[net] for net in self.outputs]
         return draft
+
+    def shuffled(self, rng):
+        """The same netlist with its cells in another order, so that cells name later nets."""
+        return self.reordered(rng.sample(range(len(self.cells)), len(self.cells)))
 
     def file(self, rng):
         pads = rng.sample(range(1, 256), self.inputs + len(self.outputs))
@@ -121,11 +123,6 @@ def free(rng, size, back=0.0):
                            for _ in range(width)))
     choose_outputs(draft, rng, rng.randint(1, size.outputs))
     return draft
-
-
-def looped(rng, size):
-    """Mostly with a loop, through flip-flops or not, at an output or hanging from none."""
-    return free(rng, size, back=0.3)
 
 
 def unbalanced(rng, size):
@@ -240,22 +237,27 @@ def many_blocks(rng, blocks):
     return draft
 
 
-def largest(rng, groups=4, levels=6):
-    """I 64, C 1,024, O 64 and 4,096 pins; groups of inputs kept apart, so that cones stay narrow.
-
-    With four groups of 16 inputs each cone has at most 16 blocks; with fewer groups more.
-    """
-    draft = Draft(MOST_INPUTS)
+def most_widths(rng):
+    """Pin counts of 1,024 cells that leave 64 of 4,096 pins for the outputs."""
     single = rng.randint(100, 300)
     widths = [1] * single + [2] * (MOST_CELLS - single)
     while sum(widths) < MOST_PINS - MOST_OUTPUTS:
         at = rng.randrange(single, MOST_CELLS)
         widths[at] = min(8, widths[at] + 1)
     rng.shuffle(widths)
+    return widths
+
+
+def largest(rng, groups=4, levels=6):
+    """I 64, C 1,024, O 64 and 4,096 pins; groups of inputs kept apart, so that cones stay narrow.
+
+    With four groups of 16 inputs each cone has at most 16 blocks; with fewer groups more.
+    """
+    draft = Draft(MOST_INPUTS)
     at_level = [[[] for _ in range(levels + 1)] for _ in range(groups)]
     for i in range(MOST_INPUTS):
         at_level[i % groups][rng.randrange(2)].append(i)
-    for width in widths:
+    for width in most_widths(rng):
         group = at_level[rng.randrange(groups)]
         level = rng.choice([k for k, nets in enumerate(group) if nets])
         if width > 1:
@@ -310,8 +312,9 @@ def balanced_or_internally(rng, size):
     return finish(family(rng, size), rng)
 
 
-def with_loop(rng, size):
-    return finish(looped(rng, size), rng)
+def with_back_pins(rng, size):
+    """A file mostly with a loop, through flip-flops or not, at an output or hanging from none."""
+    return finish(free(rng, size, back=0.3), rng)
 
 
 def deep(rng):

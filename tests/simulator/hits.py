@@ -1,34 +1,51 @@
 """What a call and its answer hit, in words, so that a part can insist on what must be hit."""
 
+from itertools import combinations
+
 from simulator.calls import CHECK, CLASS, FIELDS, READ, READ_BACK, SEARCH, SET, TRANSFORM
 from simulator.clocks import MOST_CLOCKS, play_length
 from simulator.draw import SITE_SORTS, chip_of, site_sort
+from simulator.loops import left_over, links, loops, spread
+from simulator.reading import MOST_CELLS, MOST_INPUTS, MOST_PINS, read
 from simulator.search import MOST_BLOCKS_TRIED, reached
+from simulator.structure import is_flip_flop
 
 
 def refusals(*numbers):
     return [f"refused {number}" for number in numbers]
 
 
-STRUCTURE = refusals(*range(1, 11)) + ["10 at a later place"]
+def orders(*numbers):
+    """Each refusal of a call given although a later one of the call's order has its cause too."""
+    return [f"{first} before {second}" for first, second in combinations(numbers, 2)]
+
+
+LOOPS = ["9 at a self-loop", "9 by gates only", "9 by flip-flops only", "9 by gates and flip-flops", "several loops",
+         "9 among dead cells", "9 above a feeding net", "9 above a hanging net", "9 above a net between loops",
+         "9 at the first cell", "9 at the highest nets", "9 at the last net"]
+STRUCTURE = refusals(*range(1, 11)) + ["10 at a later place", "9 above a hanging net", "9 above a net between loops",
+                                       "9 at the largest size"]
+BYTES = ["18 at a later place", "18 with several bytes above 1", "9 before 18"]
 MUST = {
     READ: ["taken", "7 at a pin count", "7 at the output count"] + refusals(*range(1, 9)),
     CLASS: ["class 1", "class 2", "class 3", "nets out of order", "dead cell", "input without branches",
             "one net on several outputs", "one net twice in a cell", "chain of joined branches", "dead branches apart",
             "64 blocks", "65 blocks", "16 blocks to an output", "17 blocks to an output", "depth 255", "largest"]
-    + STRUCTURE,
+    + STRUCTURE + LOOPS,
     TRANSFORM: ["written", "one byte short", "longer buffer", "class 1 written", "64 blocks", "17 at 65",
                 "17 before 15", "largest"] + STRUCTURE + refusals(15, 17),
-    SET: ["set", "one byte short", "longer buffer", "14 length", "14 byte", "over 64 blocks set", "13 before 11",
-          "11 before 14", "14 before 15", "11 at a later place", "largest"] + STRUCTURE + refusals(11, 13, 14, 15),
-    READ_BACK: ["read", "one byte short", "longer buffer", "14 length", "14 byte", "14 clock below d",
-                "14 clock past the play", "14 over 1,024 clocks", "1,024 clocks", "empty play", "13 before 11",
-                "11 before 14", "14 before 15", "11 at a later place", "largest"]
-    + STRUCTURE + refusals(11, 13, 14, 15),
+    SET: ["set", "one byte short", "longer buffer", "14 pattern too short", "14 pattern too long",
+          "over 64 blocks set", "11 at a later place", "largest"]
+    + STRUCTURE + BYTES + orders(13, 11, 14, 18, 15) + refusals(11, 13, 14, 15, 18),
+    READ_BACK: ["read", "one byte short", "longer buffer", "14 length", "14 over 1,024 clocks",
+                "14 over 1,024 clocks before 18", "19 below d", "19 past the play", "19 below d and past the play",
+                "19 at the number of clocks", "19 in an empty play", "1,024 clocks", "empty play",
+                "11 at a later place", "largest"]
+    + STRUCTURE + BYTES + orders(13, 11, 14, 18, 19, 15) + refusals(11, 13, 14, 15, 18, 19),
     CHECK: ["shown", "not seen", "shown after clock d", "shown at a later output", "class 1 shown",
-            "play shorter than d+1", "14 length", "14 byte", "14 over 1,024 clocks", "1,024 clocks", "empty play",
-            "12 site", "12 stuck value", "12 before 14", "largest"]
-    + [f"{sort} shown" for sort in SITE_SORTS] + STRUCTURE + refusals(12, 14),
+            "play shorter than d+1", "14 length", "14 over 1,024 clocks", "14 over 1,024 clocks before 18",
+            "1,024 clocks", "empty play", "12 site", "12 stuck value", "largest"]
+    + [f"{sort} shown" for sort in SITE_SORTS] + STRUCTURE + BYTES + orders(12, 14, 18) + refusals(12, 14, 18),
     SEARCH: ["found", "untestable", "reaches none", "reaches one", "reaches several", "found at a later output",
              "tries over several outputs", "16 blocks", "one byte short", "longer buffer", "too short and reaches none",
              "12 site", "12 stuck value", "12 before 11", "16 before 15", "11 at a later place", "16 at a later place",
@@ -72,26 +89,42 @@ def needed_room(call, chip):
     return len(chip.blocks) if call.code == READ_BACK else play_length(chip)
 
 
+def lent_bytes(call):
+    """The pattern or the play of a call."""
+    return call.pattern if call.code == SET else call.play if call.code in (READ_BACK, CHECK) else b""
+
+
+def spoilt(call):
+    return any(byte > 1 for byte in lent_bytes(call))
+
+
+def causes(call, chip):
+    """The refusals behind reading that have their cause in a call, whether or not an earlier one is given."""
+    fields, netlist = FIELDS[call.code], chip.netlist
+    clocks, rest = divmod(len(lent_bytes(call)), netlist.inputs)
+    known = "sort" in fields and site_sort(chip, call.sort, call.number) is not None
+    here = {
+        11: call.code in (SET, READ_BACK, SEARCH) and chip.class_number == 1,
+        12: "sort" in fields and (not known or call.stuck > 1),
+        13: "output" in fields and call.output >= len(netlist.outputs),
+        14: ("play" in fields and (rest > 0 or clocks > MOST_CLOCKS)
+             or "pattern" in fields and len(call.pattern) != len(chip.blocks)),
+        15: "room" in fields and call.room < needed_room(call, chip),
+        16: call.code == SEARCH and known and any(len(chip.reaching[z]) > MOST_BLOCKS_TRIED
+                                                  for z in reached(chip, call.fault)),
+        17: call.code == TRANSFORM and len(chip.blocks) > 64,
+        18: spoilt(call),
+        19: "clock" in fields and not chip.depth <= call.clock < clocks,
+    }
+    return [number for number, stands in here.items() if stands]
+
+
 def order_hits(call, chip, words):
-    """Refusals given where a later one of the call's order would have stood too."""
+    """Refusals given where another one of the call has its cause too."""
     if words[0] != "refused":
         return []
-    number = int(words[1])
-    unclassed = chip.class_number == 1
-    short = "room" in FIELDS[call.code] and call.room < needed_room(call, chip)
-    text = call.pattern if call.code == SET else call.play if call.code in (READ_BACK, CHECK) else b""
-    spoilt = any(byte > 1 for byte in text)
-    orders = {
-        "13 before 11": number == 13 and unclassed,
-        "12 before 11": number == 12 and unclassed,
-        "11 before 14": number == 11 and spoilt,
-        "12 before 14": number == 12 and spoilt,
-        "14 before 15": number == 14 and short,
-        "16 before 15": number == 16 and short,
-        "17 before 15": number == 17 and short,
-        "17 at 65": words[1:4] == ["17", "at", "65"],
-    }
-    return [name for name, here in orders.items() if here]
+    hits = [f"{words[1]} before {other}" for other in causes(call, chip) if str(other) != words[1]]
+    return hits + ["17 at 65"] * (words[1:4] == ["17", "at", "65"])
 
 
 def play_hits(call, chip, words):
@@ -102,24 +135,41 @@ def play_hits(call, chip, words):
         hits.append("empty play")
     if clocks <= chip.depth:
         hits.append("play shorter than d+1")
-    if clocks == MOST_CLOCKS and words[:2] != ["refused", "14"]:
-        hits.append("1,024 clocks")
     if words[:2] == ["refused", "14"]:
-        if rest:
-            hits.append("14 length")
-        elif clocks > MOST_CLOCKS:
-            hits.append("14 over 1,024 clocks")
-        elif any(byte > 1 for byte in call.play):
-            hits.append("14 byte")
-        elif call.code == READ_BACK:
-            hits.append("14 clock below d" if call.clock < chip.depth else "14 clock past the play")
+        hits.append("14 length" if rest else "14 over 1,024 clocks")
+        if not rest and spoilt(call):
+            hits.append("14 over 1,024 clocks before 18")
+    elif clocks == MOST_CLOCKS:
+        hits.append("1,024 clocks")
+    return hits
+
+
+def clock_hits(call, chip, words):
+    """Hits of a clock that is refused."""
+    if words[:2] != ["refused", "19"]:
+        return []
+    clocks = len(call.play) // chip.netlist.inputs
+    sides = ["below d"] * (call.clock < chip.depth) + ["past the play"] * (call.clock >= clocks)
+    hits = ["19 " + " and ".join(sides)]
+    if call.clock == clocks:
+        hits.append("19 at the number of clocks")
+    if not call.play:
+        hits.append("19 in an empty play")
     return hits
 
 
 def pattern_hits(call, chip, words):
     if words[:2] == ["refused", "14"]:
-        return ["14 length" if len(call.pattern) != len(chip.blocks) else "14 byte"]
+        return ["14 pattern too short" if len(call.pattern) < len(chip.blocks) else "14 pattern too long"]
     return ["over 64 blocks set"] if words[0] == "set" and len(chip.blocks) > 64 else []
+
+
+def byte_hits(call, words):
+    """Hits of a byte above 1 that is refused; its place is the first such byte."""
+    if words[:2] != ["refused", "18"]:
+        return []
+    several = sum(byte > 1 for byte in lent_bytes(call)) > 1
+    return ["18 at a later place"] * (words[3] != "0") + ["18 with several bytes above 1"] * several
 
 
 def room_hits(call, words):
@@ -174,6 +224,37 @@ def seven_hits(call, place):
     return ["7 at the output count" if place + 2 + 3 * announced == len(call.file) else "7 at a pin count"]
 
 
+def loop_hits(netlist):
+    """Hits that a netlist with loops brings: what its lowest loop is made of, and which nets lie below it."""
+    names, users = links(netlist)
+    found = loops(names, users)
+    lowest = min(found, key=min)
+    on_loops, place = set().union(*found), min(lowest)
+    hanging, feeding = left_over(names, users) - on_loops, left_over(users, names) - on_loops
+    flip_flops = {is_flip_flop(netlist.kinds[j]) for j in lowest}
+    behind = spread(place, users, set(range(len(names))))
+    shapes = {
+        "9 at a self-loop": len(lowest) == 1,
+        "9 by gates only": flip_flops == {False},
+        "9 by flip-flops only": flip_flops == {True},
+        "9 by gates and flip-flops": flip_flops == {False, True},
+        "several loops": len(found) > 1,
+        "9 among dead cells": not any(net - netlist.inputs in behind for net in netlist.outputs),
+        "9 above a feeding net": any(j < place for j in feeding - hanging),
+        "9 above a hanging net": any(j < place for j in hanging - feeding),
+        "9 above a net between loops": any(j < place for j in hanging & feeding),
+        "9 at the first cell": place == 0,
+        "9 at the highest nets": place > 0 and place + len(on_loops) == len(names),
+        "9 at the last net": place == len(names) - 1,
+        "9 at the largest size": is_largest(netlist),
+    }
+    return [name for name, here in shapes.items() if here]
+
+
+def is_largest(netlist):
+    return (netlist.inputs, len(netlist.cells), netlist.pins) == (MOST_INPUTS, MOST_CELLS, MOST_PINS)
+
+
 def hits(call, line):
     """All that a call with its answer hits."""
     words = line.split()
@@ -182,16 +263,20 @@ def hits(call, line):
         found += seven_hits(call, int(words[3]))
     if words[0] == "refused" and words[1] in ("10", "11", "16") and words[3] != "0":
         found.append(f"{words[1]} at a later place")
+    if words[:2] == ["refused", "9"]:
+        found += loop_hits(read(call.file)) + ["9 before 18"] * spoilt(call)
     chip = chip_of(call.file) if call.code != READ else None
     if chip is None:
         return found
-    if chip.netlist.nets == 1088 and chip.netlist.pins == 4096:
+    if is_largest(chip.netlist):
         found.append("largest")
-    found += order_hits(call, chip, words)
+    found += order_hits(call, chip, words) + byte_hits(call, words)
     if call.code == CLASS:
         found += shape_hits(chip)
     if call.code in (READ_BACK, CHECK):
         found += play_hits(call, chip, words)
+    if call.code == READ_BACK:
+        found += clock_hits(call, chip, words)
     if call.code == SET:
         found += pattern_hits(call, chip, words)
     if call.code in (TRANSFORM, SET, READ_BACK, SEARCH):

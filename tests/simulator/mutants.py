@@ -1,12 +1,13 @@
-"""The slips that 01 rules out, each put into the first mode on purpose for a while."""
+"""The slips that 01 rules out and those that W2 is open to, each put into the first mode on purpose for a while."""
 
 from contextlib import contextmanager
 from dataclasses import dataclass
 from typing import Any, Callable
 from unittest import mock
 
-from simulator import checking, clocks, search, structure
+from simulator import checking, clocks, loops, search, structure
 from simulator.faults import NET
+from simulator.reading import Refused
 
 
 @dataclass(frozen=True)
@@ -54,6 +55,34 @@ def pins_of_one_block(chip, fault):
     return right_pins(chip, fault)
 
 
+def lowest_left_over(names, users):
+    """The lowest net that the order leaves, though it may only hang from a loop."""
+    return min(loops.left_over(names, users))
+
+
+def lowest_left_both_ways(names, users):
+    """The lowest net left by the order and by the order turned round, though it may lie between two loops."""
+    return min(loops.left_over(names, users) & loops.left_over(users, names))
+
+
+def lowest_of_first_loop(names, users):
+    """The lowest net of the first loop that is found."""
+    return min(loops.loops(names, users)[0])
+
+
+def bits_by_14(data):
+    """A byte above 1 refused by 14."""
+    for at, byte in enumerate(data):
+        if byte > 1:
+            raise Refused(14, at)
+
+
+def clock_by_14(chip, clock, clocks):
+    """A clock below d or past the play refused by 14."""
+    if not chip.depth <= clock < clocks:
+        raise Refused(14, clocks)
+
+
 right_pins = search.stuck_pins
 
 SLIPS = (
@@ -62,6 +91,11 @@ SLIPS = (
     Slip("clocks counted from the input forward", clocks, "places", places_forward),
     Slip("flip-flops started at 0, differences before clock d seen", checking, "first_clock", clock_zero),
     Slip("a stuck input put into one block only", search, "stuck_pins", pins_of_one_block),
+    Slip("a net that hangs from a loop taken for one on it", loops, "lowest_on_a_loop", lowest_left_over),
+    Slip("a net between two loops taken for one on a loop", loops, "lowest_on_a_loop", lowest_left_both_ways),
+    Slip("the lowest net of one loop only", loops, "lowest_on_a_loop", lowest_of_first_loop),
+    Slip("a byte above 1 refused by 14", clocks, "need_bits", bits_by_14),
+    Slip("a clock refused by 14", clocks, "need_clock", clock_by_14),
 )
 
 

@@ -1,9 +1,10 @@
-"""What the structure of a netlist says: an order of the cells (9), depth (10), reach, blocks, class."""
+"""What the structure of a netlist without loops says: depth (10), reach, blocks, class."""
 
 from bisect import bisect_right
 from dataclasses import dataclass
 from functools import lru_cache
 
+from simulator.loops import cell_order
 from simulator.reading import DFF, Refused, read
 
 MOST_DEPTH = 255
@@ -69,26 +70,6 @@ def one_bit(field):
 
 def is_flip_flop(kind):
     return kind >= DFF
-
-
-def cell_order(netlist):
-    """An order in which each cell comes after those that it names; refusal 9 if there is none."""
-    inputs = netlist.inputs
-    waits = [sum(net >= inputs for net in nets) for nets in netlist.cells]
-    users = [[] for _ in netlist.cells]
-    for j, nets in enumerate(netlist.cells):
-        for net in nets:
-            if net >= inputs:
-                users[net - inputs].append(j)
-    order = [j for j, wait in enumerate(waits) if wait == 0]
-    for j in order:
-        for user in users[j]:
-            waits[user] -= 1
-            if waits[user] == 0:
-                order.append(user)
-    if len(order) < len(netlist.cells):
-        raise Refused(9, 0)
-    return order
 
 
 def greatest_depth(netlist, order):

@@ -14,4 +14,5 @@ class Volumes:
     listings: int = 300  # netlists for the program listing
     small: int = 2_000  # small netlists on which the two modes are compared
     laws: int = 300  # larger netlists on which the laws are tried
+    loops: int = 400  # netlists with loops in both modes and in calls, a tenth of them in the listing too
     slips: int = 400  # netlists on which each slip may be caught

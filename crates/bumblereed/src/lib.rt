@@ -30,7 +30,7 @@ pub fn transform(file: &[u8], out: &mut [u8]) -> Transformed
 }
 
 // Sets a pattern on the clocks for an output, and answers the length of the play that it writes.
-// Refuses 13 (no such output), 11 (class 1), 14 (the pattern's length, then its bytes), 15 (too short a buffer).
+// Refuses 13 (no such output), 11 (class 1), 14 (the pattern's length), 18 (its bytes), 15 (too short a buffer).
 pub fn set_pattern(file: &[u8], output: usize, pattern: &[u8], play: &mut [u8]) -> Setting
     ensures { λ r. ⌜ SetReply (now (file .entry)) output (now (pattern .entry)) (now (play .entry)) r (now (play .exit)) ⌝ }
 {
@@ -38,7 +38,7 @@ pub fn set_pattern(file: &[u8], output: usize, pattern: &[u8], play: &mut [u8]) 
 }
 
 // Reads back the pattern that an output sees at a clock of a play, and answers the length of the pattern that it writes.
-// Refuses 13 (no such output), 11 (class 1), 14 (the play's length, its bytes, then the clock), 15 (too short a buffer).
+// Refuses 13 (no such output), 11 (class 1), 14 (the play's length), 18 (its bytes), 19 (the clock), 15 (too short a buffer).
 pub fn read_back(
     file: &[u8],
     output: usize,
@@ -52,7 +52,7 @@ pub fn read_back(
 }
 
 // Checks a play against a fault: the first clock from clock d on and, in it, the first output at which the fault is shown, or not seen.
-// Refuses 12 (no such fault), 14 (the play's length, then its bytes).
+// Refuses 12 (no such fault), 14 (the play's length), 18 (its bytes).
 pub fn check_play(file: &[u8], fault: Fault, play: &[u8]) -> Checked
     ensures { λ r. ⌜ CheckReply (now (file .entry)) fault (now (play .entry)) r ⌝ }
 {

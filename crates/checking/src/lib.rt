@@ -65,7 +65,7 @@ fn check_tables(
     )
 }
 
-// Checks a play against a fault on a netlist of p pins that is prepared: refusals 12 and 14, and then the clocks.
+// Checks a play against a fault on a netlist of p pins that is prepared: refusals 12, 14 and 18, and then the clocks.
 fn check_fault(
     i: usize,
     c: usize,
@@ -94,7 +94,7 @@ fn check_fault(
     }
     let k = plays::first_above_one(play);
     if k < play.len() {
-        return Checked::Refused(14, k);
+        return Checked::Refused(18, k);
     }
     match check_tables(
         i,
@@ -145,7 +145,7 @@ fn check_chip(
         &mut block,
         &mut reached,
     ) {
-        Found::Looped => Checked::Refused(9, 0),
+        Found::Looped(m) => Checked::Refused(9, m),
         Found::TooDeep(y) => Checked::Refused(10, y),
         Found::Chip(s) => check_fault(
             z.inputs,

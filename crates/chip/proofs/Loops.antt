@@ -41,6 +41,16 @@ pigeons (suc n) (suc k) f l h =
           (a, b, m, omega arith, pick-same n (f k) (f a) (f b) (ℕ-discrete (f a) n) (ℕ-discrete (f b) n) (g′ a (omega arith)) (g′ b o) e)
     ]
 
+-- what is fed is the net of a cell
+pub fed-cell : {N : Netlist} {m n : ℕ} → Feeds N m n → (j : ℕ) × (j < N .cells) × (n ≡ N .inputs + j)
+fed-cell (direct {j = j} o) = (j, o .cell, refl)
+fed-cell (via {j = j} f o) = (j, o .cell, refl)
+
+-- and feeding goes on
+pub feeds-on : {N : Netlist} {m n t : ℕ} → Feeds N m n → Feeds N n t → Feeds N m t
+feeds-on f (direct o) = via f o
+feeds-on f (via g o) = via (feeds-on f g) o
+
 -- k cells in a row, each with a pin that names the next one's net, from net n back
 pub data Chain (N : Netlist) : ℕ → ℕ → Type 0 where
   stop : {n : ℕ} → Chain N n 0

@@ -1,13 +1,13 @@
 -- P1 to P10: each row is a reply that the call's contract allows, and so the reply.
-use Prim.Native.Nat.{ℕ, _≤_}
+use Prim.Native.Nat.{ℕ, zero, suc, _≤_}
 use mathlib.Core.Path.{_≡_, refl, sym, _∙_, subst}
 use mathlib.Core.List.{List, [], _∷_, _++_}
-use mathlib.Core.Logic.{_≢_}
+use mathlib.Core.Logic.{inr, _≢_}
 use lib.ListN.{length, drop}
 use native.Mathlib.Omega.{arith}
 use native.Mathlib.Decide.{ℕ-discrete, decLe, decLt}
 use Rattle.chip.specs.Netlist.{Sound, takes, gate, isFlop}
-use Rattle.chip.specs.Class.{LoopFree, direct, blocks}
+use Rattle.chip.specs.Class.{Feeds, direct, via, blocks}
 use Rattle.chip.specs.Transformed.{openedNet, flat}
 use Rattle.chip.specs.Faults.{FaultIn, stuck, oldNet, playOf}
 use Rattle.chip.specs.declared.Site.the-variants.{Net}
@@ -22,28 +22,29 @@ use Rattle.chip.proofs.Simulation.{decShown}
 use Rattle.chip.proofs.Decide.{reaches, decReach, find, first-hit, dec-and, dec-or, decPin, map-dec}
 use Rattle.chip.proofs.Depths.{has-depth, deepest, at, At}
 use Rattle.chip.proofs.Lowest.{has-lowest, decPair, all, along, join, relabel, Pair}
-use Rattle.chip.proofs.Loops.{pick}
+use Rattle.chip.proofs.Loops.{pick, fed-cell}
 use Rattle.chip.proofs.Classes.{has-class, class-or-place, decClass3, lowest-uneven, decUneven, decNot, Uneven, Alike, alike}
 use Rattle.chip.proofs.Tests.{every, soundTest, soundTest-right, rankTest, rankTest-right}
 use Rattle.fields.specs.Got.{refused, got}
 use Rattle.fields.specs.Format.{Parsed, readOf, countAt, wordAt, byteAt, inputs, padAt, isIn, cells, cell, kindAt, pinCountAt, pins, netAt, ending, outputs}
 use Rattle.netlist.specs.Chip.{chipOf}
 use Rattle.structure.specs.Opens.{Opens, unread, looped}
+use Rattle.structure.specs.Refusals.{Fit}
 use Rattle.structure.specs.Reply.{ClassReply}
 use Rattle.structure.specs.declared.Classed.the-variants.{Class}
 use Rattle.transform.specs.File.{fileOf}
 use Rattle.transform.specs.Reply.{TransformReply, written}
 use Rattle.transform.specs.declared.Transformed.the-variants.{Written}
-use Rattle.plays.specs.Plays.{patternOf}
-use Rattle.clocks.specs.Reply.{SetReply, sets, ReadReply, reads}
-use Rattle.clocks.specs.declared.Setting.the-variants.{Set}
-use Rattle.clocks.specs.declared.Reading.the-variants.{Read}
+use Rattle.plays.specs.Plays.{FirstAboveOne, patternOf}
+use Rattle.clocks.specs.Reply.{blockCount, SetReply, sets, ReadReply, bad-clock, reads}
+use Rattle.clocks.specs.declared.Setting.the-variants.{Set, Unset}
+use Rattle.clocks.specs.declared.Reading.the-variants.{Read, Unread}
 use Rattle.checking.specs.Reply.{CheckReply, shows-not}
 use Rattle.checking.specs.declared.Checked.the-variants.{NotShown}
 use Rattle.search.specs.Reply.{SearchReply, uneven}
 use Rattle.search.specs.declared.Searched.the-variants as Searched
 use Rattle.circuits.specs.Table.{SmallCircuits}
-use Rattle.circuits.specs.Circuits.{listingTransformed, listing, straight, neverOne, twoOutputs, buffered, selfFed, empty}
+use Rattle.circuits.specs.Circuits.{listingTransformed, listing, straight, neverOne, twoOutputs, buffered, selfFed, hanging, empty}
 use Rattle.circuits.proofs.Small.{depthOf, lowOf, classOf, prepared, worked, one-bit, two-bits, short-play, fit, setFor, play-is, play-sets, readFor, pattern-reads, answer, says, leaves, searched, class-1, placed}
 
 -- a file is read as one netlist
@@ -150,7 +151,7 @@ shared-worked : Opens buffered (got shared) × ClassReply buffered (Class 1 1 1)
 unfolding shared-ranked shared-sound depthOf lowOf classOf chipOf has-depth deepest at At has-lowest decPair all along join relabel pick Pair has-class class-or-place decClass3 lowest-uneven decUneven decNot Uneven Alike alike first-hit rankTest-right reaches decReach find dec-and dec-or decPin map-dec decLe decLt ℕ-discrete isFlop blocks
 shared-worked = worked buffered shared shared-read shared-sound shared-ranked (omega arith)
 
--- P9: 9 at 0
+-- P9: 9 at 1
 abbrev fed : Parsed
 fed = record { ins = 1; outs = 1; pads = 1 ∷ 2 ∷ []; kinds = 8 ∷ []; counts = 1 ∷ []; nets = 1 ∷ 1 ∷ [] }
 
@@ -158,12 +159,39 @@ fed-read : readOf selfFed ≡ got fed
 unfolding readOf countAt wordAt byteAt inputs padAt isIn cells cell kindAt pinCountAt takes pins netAt ending outputs
 fed-read = refl
 
-fed-looped : ¬ LoopFree (chipOf fed)
+fed-refused : Opens selfFed (refused 9 1)
 unfolding chipOf
-fed-looped free = free 1 (direct {j = 0} {p = 0} (record { cell = omega arith; from = omega arith; to = omega arith }))
+fed-refused = looped fed-read (direct {j = 0} {p = 0} (record { cell = omega arith; from = omega arith; to = omega arith })) (λ m l f. omega (arith, fed-cell f .2))
 
-fed-refused : Opens selfFed (refused 9 0)
-fed-refused = looped fed-read fed-looped
+-- and 9 at 2, though net 1 hangs from the loop
+abbrev pub hung : Parsed
+hung = record { ins = 1; outs = 1; pads = 1 ∷ 2 ∷ []; kinds = 0 ∷ 8 ∷ []; counts = 1 ∷ 1 ∷ []; nets = 2 ∷ 2 ∷ 1 ∷ [] }
+
+pub hung-read : readOf hanging ≡ got hung
+unfolding readOf countAt wordAt byteAt inputs padAt isIn cells cell kindAt pinCountAt takes pins netAt ending outputs
+hung-read = refl
+
+pub hung-loop : Feeds (chipOf hung) 2 2
+unfolding chipOf
+hung-loop = direct {j = 1} {p = 1} (record { cell = omega arith; from = omega arith; to = omega arith })
+
+pub hung-hangs : Feeds (chipOf hung) 2 1
+unfolding chipOf
+hung-hangs = direct {j = 0} {p = 0} (record { cell = omega arith; from = omega arith; to = omega arith })
+
+-- both cells are fed by net 2, and so is all that is fed
+only-two : {m n : ℕ} → Feeds (chipOf hung) m n → m ≡ 2
+unfolding chipOf
+only-two (direct {j = zero} {p = zero} o) = refl
+only-two (direct {j = zero} {p = suc p} o) = absurd (omega (arith, o .to))
+only-two (direct {j = suc zero} {p = zero} o) = refl
+only-two (direct {j = suc zero} {p = suc zero} o) = refl
+only-two (direct {j = suc zero} {p = suc (suc p)} o) = absurd (omega (arith, o .to))
+only-two (direct {j = suc (suc j)} o) = absurd (omega (arith, o .cell))
+only-two (via f o) = only-two f
+
+hung-refused : Opens hanging (refused 9 2)
+hung-refused = looped hung-read hung-loop (λ m l f. omega (arith, only-two f))
 
 -- P10: 1 at 0
 empty-refused : Opens empty (refused 1 0)
@@ -241,6 +269,31 @@ listed-back entry h =
     reads {n = 2} {pattern = 1 ∷ 0 ∷ []} (fit listing listed listed-sound listed-ranked (listed-worked .0) even) (omega arith) (record { long = refl; few = omega arith }) (two-bits 1 0 (omega arith) (omega arith)) (omega arith) (omega arith) refl (two-bits 1 0 (omega arith) (omega arith))
     (pattern-reads listing listed listed-sound listed-ranked (listed-worked .0) even 0 (omega arith) (playOf 1 (1 ∷ 0 ∷ [])) 1 (omega arith)) (record { room = h; now-is = refl })
 
+-- What setting and reading back refuse on P5's circuit: a byte above 1, and a clock past the play.
+
+through-fit : Fit straight through (depthOf (chipOf through) through-sound through-ranked) (lowOf (chipOf through) through-sound through-ranked)
+unfolding through-ranked through-sound depthOf lowOf classOf chipOf has-depth deepest at At has-lowest decPair all along join relabel pick Pair has-class class-or-place decClass3 lowest-uneven decUneven decNot Uneven Alike alike first-hit rankTest-right reaches decReach find dec-and dec-or decPin map-dec decLe decLt ℕ-discrete isFlop blocks
+through-fit = fit straight through through-sound through-ranked (through-worked .0) (omega arith)
+
+through-one : 1 ≡ blockCount through (lowOf (chipOf through) through-sound through-ranked)
+unfolding through-ranked through-sound depthOf lowOf classOf chipOf has-depth deepest at At has-lowest decPair all along join relabel pick Pair has-class class-or-place decClass3 lowest-uneven decUneven decNot Uneven Alike alike first-hit rankTest-right reaches decReach find dec-and dec-or decPin map-dec decLe decLt ℕ-discrete isFlop blocks
+through-one = refl
+
+pub two-above : FirstAboveOne (2 ∷ []) 0
+two-above = record { there = omega arith; above = omega arith; before = λ j l. absurd (omega arith) }
+
+pub through-set-two : (entry : List ℕ) → SetReply straight 0 (2 ∷ []) entry (Unset 18 0) entry
+unfolding chipOf
+through-set-two entry = SetReply.bad-byte through-fit (omega arith) through-one two-above
+
+pub through-back-two : (entry : List ℕ) → ReadReply straight 0 (2 ∷ []) 0 entry (Unread 18 0) entry
+unfolding chipOf
+through-back-two entry = ReadReply.bad-byte {n = 1} through-fit (omega arith) (record { long = refl; few = omega arith }) two-above
+
+pub through-late : (entry : List ℕ) → ReadReply straight 0 (1 ∷ []) 1 entry (Unread 19 1) entry
+unfolding chipOf
+through-late entry = bad-clock {n = 1} through-fit (omega arith) (record { long = refl; few = omega arith }) (one-bit 1 (omega arith)) (inr (omega arith))
+
 -- the table
 pub small-circuits : SmallCircuits
 small-circuits =
@@ -257,5 +310,6 @@ small-circuits =
       p8 = shared-worked .1;
       p8-search = shared-refused;
       p9 = fed-refused;
+      p9-hanging = hung-refused;
       p10 = empty-refused;
     }

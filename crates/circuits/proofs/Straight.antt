@@ -14,11 +14,11 @@ use Rattle.structure.specs.Reply.{ClassReply, refuses, answers}
 use Rattle.structure.specs.declared.Classed.{Classed}
 use Rattle.structure.specs.declared.Classed.the-variants.{Class}
 use Rattle.structure.proofs.Unique.{same-file}
-use Rattle.checking.specs.Reply.{CheckReply, shows, shows-not}
+use Rattle.checking.specs.Reply.{CheckReply, bad-byte, shows, shows-not}
 use Rattle.checking.specs.declared.Checked.the-variants as Checked
 use Rattle.circuits.specs.Circuits.{straight}
 use Rattle.circuits.proofs.Small.{two-bits}
-use Rattle.circuits.proofs.Rows.{through, through-worked}
+use Rattle.circuits.proofs.Rows.{through, through-worked, two-above}
 
 abbrev N : Netlist
 N = chipOf through
@@ -79,3 +79,8 @@ never = shows-not {n = 2} (through-worked .0) known (record { long = refl; few =
     nowhere (suc zero) zero l h o = not-shown-at (0 ∷ 0 ∷ []) 1 refl
     nowhere (suc (suc t)) zero l h o = absurd (omega arith)
     nowhere t (suc z) l h o = absurd (omega arith)
+
+-- and a byte above 1 is refused
+pub above : CheckReply straight stuckInput (2 ∷ []) (Checked.Refused 18 0)
+unfolding chipOf
+above = bad-byte {n = 1} (through-worked .0) known (record { long = refl; few = omega arith }) two-above

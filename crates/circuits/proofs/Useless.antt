@@ -1,5 +1,5 @@
 -- No useless version of a call meets its contract: a contract allows one reply, and these replies are known.
-use Prim.Native.Nat.{ℕ, _≤_}
+use Prim.Native.Nat.{ℕ, _≤_, _<_}
 use mathlib.Core.Path.{_≡_, refl, sym, ap, _∙_}
 use mathlib.Core.Logic.{_⊎_, inl, inr, _≢_}
 use mathlib.Core.Bool.{true}
@@ -11,12 +11,14 @@ use Rattle.chip.specs.Class.{blocks}
 use Rattle.chip.specs.Faults.{stuck}
 use Rattle.chip.specs.Search.{patterns}
 use Rattle.chip.specs.Search as Search
+use Rattle.chip.proofs.Loops.{fed-cell}
 use Rattle.chip.proofs.Search.{hit-bounded}
 use Rattle.chip.specs.declared.Site.the-variants.{Net}
 use Rattle.fields.specs.Format.{Parsed}
 use Rattle.netlist.specs.Chip.{chipOf}
 use Rattle.structure.specs.declared.Classed.{Classed}
 use Rattle.structure.specs.declared.Classed.the-variants as Classed
+use Rattle.structure.specs.Reply.{refuses}
 use Rattle.structure.proofs.Unique.{one-class-reply}
 use Rattle.transform.specs.Reply.{TransformReply}
 use Rattle.transform.specs.declared.Transformed.{Transformed}
@@ -35,10 +37,10 @@ use Rattle.search.specs.Reply.{SearchReply, finds, finds-none}
 use Rattle.search.specs.declared.Searched.{Searched}
 use Rattle.search.specs.declared.Searched.the-variants as Searched
 use Rattle.search.proofs.Unique.{one-search-reply}
-use Rattle.circuits.specs.Circuits.{listing, listingTransformed, straight, neverOne}
-use Rattle.circuits.specs.Useless.{NoneRefuses, NoneConstant, NoneIdle, bytes, ToClass, Classing, ToTransform, Transforming, ToSet, SettingOf, ToRead, ReadingBack, ToTest, Checking, Searching, ShutOut}
-use Rattle.circuits.proofs.Rows.{small-circuits, through-transformed, through-set, through-back, listed-back}
-use Rattle.circuits.proofs.Straight.{stuckInput, late, never}
+use Rattle.circuits.specs.Circuits.{listing, listingTransformed, straight, neverOne, hanging}
+use Rattle.circuits.specs.Useless.{NoneRefuses, NoneConstant, NoneIdle, NoneWithout, Hangs, bytes, ToClass, Classing, ToTransform, Transforming, ToSet, SettingOf, ToRead, ReadingBack, ToTest, Checking, Searching, ShutOut}
+use Rattle.circuits.proofs.Rows.{small-circuits, hung, hung-read, hung-loop, hung-hangs, through-transformed, through-set, through-back, through-set-two, through-back-two, through-late, listed-back}
+use Rattle.circuits.proofs.Straight.{stuckInput, late, never, above}
 
 -- A contract that allows one reply shuts a version out as soon as it allows another reply than the version's.
 module _ (Given Answer : Type 0) (Allows : Given → Answer → List ℕ → Type 0) (refusal : ℕ → ℕ → Answer)
@@ -55,6 +57,9 @@ module _ (Given Answer : Type 0) (Allows : Given → Answer → List ℕ → Typ
       → NoneConstant Given Answer Allows refusal
   constant-out g g′ a a′ l l′ h h′ other other′ differ r leaves all = differ (sym (answers r g a l (leaves g) h other (all g)) ∙ answers r g′ a′ l′ (leaves g′) h′ other′ (all g′))
 
+  without-out : (k : ℕ) (g : Given) (p : ℕ) (l : List ℕ) → Allows g (refusal k p) l → NoneWithout Given Answer Allows refusal k
+  without-out k g p l h answers leaves never all = never g p (one g (answers g) (refusal k p) (leaves g) l (all g) h)
+
 module _ (Given Answer : Type 0) (Allows : Given → Answer → List ℕ → Type 0) (one : (g : Given) (a b : Answer) (l m : List ℕ) → Allows g a l → Allows g b m → l ≡ m) where
   -- the buffer is another than the lent one in its first byte
   idle-out : (lent : Given → List ℕ) (g : Given) (a : Answer) (l : List ℕ) → Allows g a l → getD (lent g) 0 0 ≢ getD l 0 0 → NoneIdle Given Answer Allows lent
@@ -70,6 +75,14 @@ class-taken n p k d b e = let z : _≡_ {A = ℕ} 0 1 = cc in omega arith
 
 class-differs : Classed.Class 2 1 2 ≢ Classed.Class 3 0 1
 class-differs e = let z : _≡_ {A = ℕ} 2 3 = cc in omega arith
+
+place-differs : Classed.Refused 9 1 ≢ Classed.Refused 9 2
+place-differs e = let z : _≡_ {A = ℕ} 1 2 = cc in omega arith
+
+-- no net below net 1 hangs from the loop of the circuit beside P9
+unhung : (m : ℕ) → m < 1 → ¬ Hangs (chipOf hung) m
+unfolding chipOf
+unhung m l (n, f, g) = omega (arith, fed-cell g .2)
 
 -- Transforming: the circuits of P1 and P5, into zeros.
 
@@ -149,20 +162,26 @@ shut-out =
       class-refuses = refuses-out ToClass Classed Classing Classed.Refused class-one (toClass listing refl) (Classed.Class 2 1 2) [] (small-circuits .p1) (λ n p. class-taken n p 2 1 2);
       class-constant = constant-out ToClass Classed Classing Classed.Refused class-one (toClass listing refl) (toClass straight refl) (Classed.Class 2 1 2) (Classed.Class 3 0 1) [] [] (small-circuits .p1) (small-circuits .p5)
           (λ n p. class-taken n p 2 1 2) (λ n p. class-taken n p 3 0 1) class-differs;
+      class-hanging = λ answers lowest all.
+          place-differs (sym (lowest (toClass hanging refl) hung 1 hung-read (2, hung-loop, hung-hangs) unhung) ∙ one-class-reply hanging (all (toClass hanging refl)) (refuses (small-circuits .p9-hanging)));
       transform-refuses = refuses-out ToTransform Transformed Transforming Transformed.Refused (λ g a b l m r s. transform-one g a b l m r s .0) listing-out (Transformed.Written 21) _ P3 (λ n p. transform-taken n p 21);
       transform-constant = constant-out ToTransform Transformed Transforming Transformed.Refused (λ g a b l m r s. transform-one g a b l m r s .0) listing-out straight-out (Transformed.Written 21) (Transformed.Written 10) _ _ P3
           (through-transformed (replicate 10 0) (omega arith)) (λ n p. transform-taken n p 21) (λ n p. transform-taken n p 10) transform-differs;
       transform-idle = idle-out ToTransform Transformed Transforming (λ g a b l m r s. transform-one g a b l m r s .1) (λ g. g .out) listing-out (Transformed.Written 21) _ P3 (omega arith);
       set-refuses = refuses-out ToSet Setting SettingOf Setting.Unset (λ g a b l m r s. set-one g a b l m r s .0) listing-set (Setting.Set 2) _ P2 (λ n p. set-taken n p 2);
-      set-constant = constant-out ToSet Setting SettingOf Setting.Unset (λ g a b l m r s. set-one g a b l m r s .0) listing-set straight-set (Setting.Set 2) (Setting.Set 1) _ _ P2
+      set-constant = constant-out ToSet Setting SettingOf Setting.Unset (λ g a b l m r s. set-one g a b l m r s .0) listing-set (set-on-straight (1 ∷ []) refl) (Setting.Set 2) (Setting.Set 1) _ _ P2
           (through-set (0 ∷ []) (omega arith)) (λ n p. set-taken n p 2) (λ n p. set-taken n p 1) set-differs;
       set-idle = idle-out ToSet Setting SettingOf (λ g a b l m r s. set-one g a b l m r s .1) (λ g. g .play) listing-set (Setting.Set 2) _ P2 (omega arith);
+      set-byte = without-out ToSet Setting SettingOf Setting.Unset (λ g a b l m r s. set-one g a b l m r s .0) 18 (set-on-straight (2 ∷ []) refl) 0 _ (through-set-two (0 ∷ []));
       read-refuses = refuses-out ToRead Reading ReadingBack Reading.Unread (λ g a b l m r s. read-one g a b l m r s .0) listing-read (Reading.Read 2) _ back (λ n p. read-taken n p 2);
-      read-constant = constant-out ToRead Reading ReadingBack Reading.Unread (λ g a b l m r s. read-one g a b l m r s .0) listing-read straight-read (Reading.Read 2) (Reading.Read 1) _ _ back
+      read-constant = constant-out ToRead Reading ReadingBack Reading.Unread (λ g a b l m r s. read-one g a b l m r s .0) listing-read (read-on-straight (1 ∷ []) refl 0) (Reading.Read 2) (Reading.Read 1) _ _ back
           (through-back (0 ∷ []) (omega arith)) (λ n p. read-taken n p 2) (λ n p. read-taken n p 1) read-differs;
       read-idle = idle-out ToRead Reading ReadingBack (λ g a b l m r s. read-one g a b l m r s .1) (λ g. g .pattern) listing-read (Reading.Read 2) _ back (omega arith);
+      read-byte = without-out ToRead Reading ReadingBack Reading.Unread (λ g a b l m r s. read-one g a b l m r s .0) 18 (read-on-straight (2 ∷ []) refl 0) 0 _ (through-back-two (0 ∷ []));
+      read-clock = without-out ToRead Reading ReadingBack Reading.Unread (λ g a b l m r s. read-one g a b l m r s .0) 19 (read-on-straight (1 ∷ []) refl 1) 1 _ (through-late (0 ∷ []));
       check-refuses = refuses-out ToTest Checked Checking Checked.Refused check-one (to-check (0 ∷ 1 ∷ []) refl) (Checked.Shown 1 0) [] late shown-taken;
       check-constant = constant-out ToTest Checked Checking Checked.Refused check-one (to-check (0 ∷ 1 ∷ []) refl) (to-check (0 ∷ 0 ∷ []) refl) (Checked.Shown 1 0) Checked.NotShown [] [] late never shown-taken never-taken check-differs;
+      check-byte = without-out ToTest Checked Checking Checked.Refused check-one 18 (to-check (2 ∷ []) refl) 0 [] above;
       check-clock-0 = λ answers all.
           check-differs
           (one-check-reply straight stuckInput (0 ∷ 1 ∷ []) late (all (to-check (0 ∷ 1 ∷ []) refl)) ∙ one-check-reply straight stuckInput (0 ∷ 0 ∷ []) (all (to-check (0 ∷ 0 ∷ []) refl)) never);
@@ -185,14 +204,14 @@ shut-out =
     listing-set : ToSet
     listing-set = record { file = listing; output = 0; pattern = 1 ∷ 0 ∷ []; play = 0 ∷ 0 ∷ []; file-bytes = refl; pattern-bytes = refl; play-bytes = refl }
 
-    straight-set : ToSet
-    straight-set = record { file = straight; output = 0; pattern = 1 ∷ []; play = 0 ∷ []; file-bytes = refl; pattern-bytes = refl; play-bytes = refl }
+    set-on-straight : (pattern : List ℕ) → bytes pattern ≡ true → ToSet
+    set-on-straight pattern b = record { file = straight; output = 0; pattern = pattern; play = 0 ∷ []; file-bytes = refl; pattern-bytes = b; play-bytes = refl }
 
     listing-read : ToRead
     listing-read = record { file = listing; output = 0; play = 1 ∷ 0 ∷ []; clock = 1; pattern = 0 ∷ 0 ∷ []; file-bytes = refl; play-bytes = refl; pattern-bytes = refl }
 
-    straight-read : ToRead
-    straight-read = record { file = straight; output = 0; play = 1 ∷ []; clock = 0; pattern = 0 ∷ []; file-bytes = refl; play-bytes = refl; pattern-bytes = refl }
+    read-on-straight : (play : List ℕ) → bytes play ≡ true → ℕ → ToRead
+    read-on-straight play b clock = record { file = straight; output = 0; play = play; clock = clock; pattern = 0 ∷ []; file-bytes = refl; play-bytes = b; pattern-bytes = refl }
 
     to-check : (play : List ℕ) → bytes play ≡ true → ToTest
     to-check play b = record { file = straight; fault = stuckInput; play = play; file-bytes = refl; stuck-byte = omega arith; play-bytes = b }

@@ -1,4 +1,4 @@
--- 'Small circuits with known results': the netlist files of P1 to P10.
+-- 'Small circuits with known results': the netlist files of P1 to P10, and beside P9 one in which a lower net hangs from the loop.
 use Prim.Native.Nat.{ℕ}
 use mathlib.Core.List.{List, [], _∷_}
 
@@ -29,6 +29,10 @@ buffered = 1 ∷ 0 ∷ 1 ∷ 3 ∷ 0 ∷ 0 ∷ 1 ∷ 0 ∷ 0 ∷ 8 ∷ 1 ∷ 1 �
 -- P9: a DFF that feeds itself
 abbrev pub selfFed : List ℕ
 selfFed = 1 ∷ 0 ∷ 1 ∷ 1 ∷ 0 ∷ 8 ∷ 1 ∷ 1 ∷ 0 ∷ 1 ∷ 0 ∷ 2 ∷ 1 ∷ 0 ∷ []
+
+-- a BUF that hangs from a DFF that feeds itself: net 1 hangs from the loop, and net 2 is on it
+abbrev pub hanging : List ℕ
+hanging = 1 ∷ 0 ∷ 1 ∷ 2 ∷ 0 ∷ 0 ∷ 1 ∷ 2 ∷ 0 ∷ 8 ∷ 1 ∷ 2 ∷ 0 ∷ 1 ∷ 0 ∷ 2 ∷ 1 ∷ 0 ∷ []
 
 -- P10: the empty file
 abbrev pub empty : List ℕ

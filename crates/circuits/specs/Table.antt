@@ -20,7 +20,7 @@ use Rattle.checking.specs.Reply.{CheckReply}
 use Rattle.checking.specs.declared.Checked.the-variants.{NotShown}
 use Rattle.search.specs.Reply.{SearchReply}
 use Rattle.search.specs.declared.Searched.the-variants as Searched
-use Rattle.circuits.specs.Circuits.{listing, listingTransformed, straight, neverOne, twoOutputs, buffered, selfFed, empty}
+use Rattle.circuits.specs.Circuits.{listing, listingTransformed, straight, neverOne, twoOutputs, buffered, selfFed, hanging, empty}
 
 pub record SmallCircuits : Type 0 where
   -- class 2, depth 1, two blocks
@@ -42,7 +42,8 @@ pub record SmallCircuits : Type 0 where
   -- class 1; the search is refused by 11 at 0
   pub p8 : ClassReply buffered (Class 1 1 1)
   pub p8-search : (fault : Fault) (x : Parsed) → readOf buffered ≡ got x → FaultIn (chipOf x) fault → (entry : List ℕ) → SearchReply buffered fault entry (Searched.Refused 11 0) entry
-  -- 9, which every call gives
-  pub p9 : Opens selfFed (refused 9 0)
+  -- 9 at the DFF's net, which every call gives; and so where a lower net hangs from such a loop
+  pub p9 : Opens selfFed (refused 9 1)
+  pub p9-hanging : Opens hanging (refused 9 2)
   -- 1 at 0, which every call gives
   pub p10 : Opens empty (refused 1 0)

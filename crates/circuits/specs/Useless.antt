@@ -3,17 +3,18 @@
 -- Allows is what the call's contract allows; the statements say that no version of a kind is allowed everywhere.
 use Prim.Native.Nat.{ℕ, _≤_, _<_}
 use mathlib.Core.Path.{_≡_}
-use mathlib.Core.Logic.{_⊎_}
+use mathlib.Core.Logic.{_⊎_, _≢_}
 use mathlib.Core.Bool.{Bool, true, _&&_}
 use mathlib.Core.List.{List, [], _∷_}
 use lib.ListN.{length, getD, take}
 use lib.Dec.{ltb}
-use Rattle.chip.specs.Netlist.{sumBelow}
-use Rattle.chip.specs.Class.{blocks}
+use Rattle.chip.specs.Netlist.{Netlist, sumBelow}
+use Rattle.chip.specs.Class.{Feeds, blocks}
 use Rattle.chip.specs.Search.{patterns}
 use Rattle.chip.specs.Search as Search
 use Rattle.chip.specs.declared.Fault.{Fault}
-use Rattle.fields.specs.Format.{Parsed}
+use Rattle.fields.specs.Got.{got}
+use Rattle.fields.specs.Format.{Parsed, readOf}
 use Rattle.netlist.specs.Chip.{chipOf}
 use Rattle.structure.specs.Reply.{ClassReply}
 use Rattle.structure.specs.declared.Classed.{Classed}
@@ -45,6 +46,14 @@ NoneConstant Given Answer Allows refusal = (r : Answer) (leaves : Given → List
 -- none writes nothing
 abbrev pub NoneIdle : (Given Answer : Type 0) → (Given → Answer → List ℕ → Type 0) → (Given → List ℕ) → Type 0
 NoneIdle Given Answer Allows lent = (answers : Given → Answer) → ¬ ((g : Given) → Allows g (answers g) (lent g))
+
+-- none does without refusal k
+abbrev pub NoneWithout : (Given Answer : Type 0) → (Given → Answer → List ℕ → Type 0) → (ℕ → ℕ → Answer) → ℕ → Type 0
+NoneWithout Given Answer Allows refusal k = (answers : Given → Answer) (leaves : Given → List ℕ) → ((g : Given) (p : ℕ) → answers g ≢ refusal k p) → ¬ ((g : Given) → Allows g (answers g) (leaves g))
+
+-- net n hangs from a loop, or lies on one
+abbrev pub Hangs : Netlist → ℕ → Type 0
+Hangs N n = (m : ℕ) × Feeds N m m × Feeds N m n
 
 -- What each call may be given, and what its contract allows.
 
@@ -116,17 +125,27 @@ clock0 file play = take (getD file 0 0) play
 pub record ShutOut : Type 0 where
   pub class-refuses : NoneRefuses ToClass Classed Classing Classed.Refused
   pub class-constant : NoneConstant ToClass Classed Classing Classed.Refused
+  -- none gives as the place of 9 the lowest net that hangs from a loop, where another is the lowest on one
+  pub class-hanging : (answers : ToClass → Classed)
+      → ((g : ToClass) (x : Parsed) (n : ℕ) → readOf (g .file) ≡ got x → Hangs (chipOf x) n → ((m : ℕ) → m < n → ¬ Hangs (chipOf x) m) → answers g ≡ Classed.Refused 9 n)
+      → ¬ ((g : ToClass) → ClassReply (g .file) (answers g))
   pub transform-refuses : NoneRefuses ToTransform Transformed Transforming Transformed.Refused
   pub transform-constant : NoneConstant ToTransform Transformed Transforming Transformed.Refused
   pub transform-idle : NoneIdle ToTransform Transformed Transforming (λ g. g .out)
   pub set-refuses : NoneRefuses ToSet Setting SettingOf Setting.Unset
   pub set-constant : NoneConstant ToSet Setting SettingOf Setting.Unset
   pub set-idle : NoneIdle ToSet Setting SettingOf (λ g. g .play)
+  -- none does without 18, as one would that refuses a byte above 1 by 14
+  pub set-byte : NoneWithout ToSet Setting SettingOf Setting.Unset 18
   pub read-refuses : NoneRefuses ToRead Reading ReadingBack Reading.Unread
   pub read-constant : NoneConstant ToRead Reading ReadingBack Reading.Unread
   pub read-idle : NoneIdle ToRead Reading ReadingBack (λ g. g .pattern)
+  pub read-byte : NoneWithout ToRead Reading ReadingBack Reading.Unread 18
+  -- none does without 19, as one would that refuses a clock by 14
+  pub read-clock : NoneWithout ToRead Reading ReadingBack Reading.Unread 19
   pub check-refuses : NoneRefuses ToTest Checked Checking Checked.Refused
   pub check-constant : NoneConstant ToTest Checked Checking Checked.Refused
+  pub check-byte : NoneWithout ToTest Checked Checking Checked.Refused 18
   -- none goes by clock 0 of the play and its length alone
   pub check-clock-0 : (answers : List ℕ → Fault → ℕ → List ℕ → Checked)
       → ¬ ((g : ToTest) → CheckReply (g .file) (g .fault) (g .play) (answers (g .file) (g .fault) (length (g .play)) (clock0 (g .file) (g .play))))

@@ -4,7 +4,7 @@ use mathlib.Core.Path.{_≡_, sym, ap, _∙_, subst}
 use mathlib.Core.Logic.{_⊎_, _≢_}
 use mathlib.Core.List.{List}
 use lib.ListN.{length}
-use Rattle.chip.specs.Netlist.{Netlist, InLimits, allPins}
+use Rattle.chip.specs.Netlist.{Netlist}
 use Rattle.chip.specs.Class.{Lowest, blocks}
 use Rattle.fields.specs.Got.{got}
 use Rattle.fields.specs.Format.{Parsed}
@@ -14,7 +14,7 @@ use Rattle.plays.specs.Plays.{FirstAboveOne, AllBits, Clocks}
 use Rattle.structure.specs.Refusals.{Fit}
 use Rattle.structure.specs.Inner.Shape.{Shaped}
 use Rattle.structure.specs.declared.Shape.{Shape}
-use Rattle.sweeps.specs.Swept.{Even, PlaySet, PatternRead}
+use Rattle.sweeps.specs.Swept.{PlaySet, PatternRead}
 use Rattle.clocks.specs.Reply.{SetReply, ReadReply}
 use Rattle.clocks.specs.declared.Setting.the-variants.{Set, Unset}
 use Rattle.clocks.specs.declared.Reading.the-variants.{Read, Unread}
@@ -43,7 +43,7 @@ module _ {N : Netlist} {firsts order block reached : List ℕ} {s : Shape} (S₀
       set-bad-length h = SetReply.bad-length (fit g) (there l) (λ e. h (e ∙ sym (S .count)))
 
       module _ (e : length pattern ≡ s .blocks) where
-        pub set-bad-byte : (k : ℕ) → FirstAboveOne pattern k → SetReply file output pattern entry (Unset 14 k) entry
+        pub set-bad-byte : (k : ℕ) → FirstAboveOne pattern k → SetReply file output pattern entry (Unset 18 k) entry
         set-bad-byte k F = SetReply.bad-byte (fit g) (there l) (e ∙ S .count) F
 
         pub set-too-short : AllBits pattern → length entry < suc (s .depth) * N .inputs → SetReply file output pattern entry (Unset 15 (suc (s .depth) * N .inputs)) entry
@@ -74,11 +74,11 @@ module _ {N : Netlist} {firsts order block reached : List ℕ} {s : Shape} (S₀
         C : Clocks (chipOf x .inputs) play m
         C = subst (λ M. Clocks (M .inputs) play m) q C₀
 
-        pub read-bad-byte : (k : ℕ) → FirstAboveOne play k → ReadReply file output play clock entry (Unread 14 k) entry
+        pub read-bad-byte : (k : ℕ) → FirstAboveOne play k → ReadReply file output play clock entry (Unread 18 k) entry
         read-bad-byte k F = ReadReply.bad-byte (fit g) (there l) C F
 
         module _ (bits : AllBits play) where
-          pub read-bad-clock : (clock < s .depth) ⊎ (m ≤ clock) → ReadReply file output play clock entry (Unread 14 m) entry
+          pub read-bad-clock : (clock < s .depth) ⊎ (m ≤ clock) → ReadReply file output play clock entry (Unread 19 m) entry
           read-bad-clock h = ReadReply.bad-clock (fit g) (there l) C bits h
 
           module _ (late : s .depth ≤ clock) (inside : clock < m) where

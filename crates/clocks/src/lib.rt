@@ -28,7 +28,7 @@ pub enum Reading {
     Unread(u8, usize),
 }
 
-// Sets a pattern on a chip that is prepared, or refuses: 13, 11, 14, 15.
+// Sets a pattern on a chip that is prepared, or refuses: 13, 11, 14, 18, 15.
 fn set_chip(
     i: usize,
     c: usize,
@@ -62,7 +62,7 @@ fn set_chip(
     }
     let k = plays::first_above_one(pattern);
     if k < pattern.len() {
-        return Setting::Unset(14, k);
+        return Setting::Unset(18, k);
     }
     let long = (s.depth + 1) * i;
     if play.len() < long {
@@ -87,7 +87,7 @@ fn set_chip(
     Setting::Set(long)
 }
 
-// Reads a pattern back on a chip that is prepared, or refuses: 13, 11, 14, 15.
+// Reads a pattern back on a chip that is prepared, or refuses: 13, 11, 14, 18, 19, 15.
 fn read_chip(
     i: usize,
     c: usize,
@@ -123,13 +123,10 @@ fn read_chip(
     }
     let k = plays::first_above_one(play);
     if k < play.len() {
-        return Reading::Unread(14, k);
+        return Reading::Unread(18, k);
     }
-    if t < s.depth {
-        return Reading::Unread(14, m);
-    }
-    if m <= t {
-        return Reading::Unread(14, m);
+    if t < s.depth || m <= t {
+        return Reading::Unread(19, m);
     }
     if pattern.len() < s.blocks {
         return Reading::Unread(15, s.blocks);
@@ -180,7 +177,7 @@ fn set_tables(a: Tables, z: Sizes, output: usize, pattern: &[u8], play: &mut [u8
         &mut block,
         &mut reached,
     ) {
-        Found::Looped => Setting::Unset(9, 0),
+        Found::Looped(m) => Setting::Unset(9, m),
         Found::TooDeep(y) => Setting::Unset(10, y),
         Found::Chip(s) => set_chip(
             z.inputs,
@@ -233,7 +230,7 @@ fn read_tables(
         &mut block,
         &mut reached,
     ) {
-        Found::Looped => Reading::Unread(9, 0),
+        Found::Looped(m) => Reading::Unread(9, m),
         Found::TooDeep(y) => Reading::Unread(10, y),
         Found::Chip(s) => read_chip(
             z.inputs,

@@ -180,8 +180,8 @@ fn list_file(file: &[u8], play: &mut [u8], line: &mut [u8; 65536], used: &mut us
         &mut block,
         &mut reached,
     ) {
-        Found::Looped => {
-            refused(9, 0, line, used);
+        Found::Looped(m) => {
+            refused(9, m, line, used);
             return;
         }
         Found::TooDeep(y) => {

@@ -218,8 +218,8 @@ fn search_tables(t: Tables, z: Sizes, fault: Fault, play: &mut [u8]) -> Searched
         &mut block,
         &mut reached,
     ) {
-        Found::Looped => {
-            return Searched::Refused(9, 0);
+        Found::Looped(m) => {
+            return Searched::Refused(9, m);
         }
         Found::TooDeep(y) => {
             return Searched::Refused(10, y);

@@ -15,6 +15,7 @@ use Rattle.netlist.specs.declared.Sizes.{Sizes}
 use Rattle.netlist.specs.declared.Reading.the-variants as R
 use Rattle.netlist.proofs.Use as N
 use Rattle.netlist.specs.declared.Tables.{Tables}
+use Rattle.loops.specs.Loops.{LowestLoop}
 use Rattle.structure.specs.Opens.{Opens, unread, looped, deep, opened}
 use Rattle.structure.specs.Inner.Shape.{LowestDeep, Shaped, FoundIs}
 use Rattle.structure.specs.Reply.{ClassReply, answers}
@@ -29,8 +30,8 @@ tablesChip r z = tabled (z .inputs) (z .cells) (z .outputs) (r .kinds) (r .count
 
 -- what was found of a netlist, once the answer is known
 module _ (N : Netlist) (firsts order block reached : List ℕ) (a : Found) (f : FoundIs N firsts order block reached a) where
-  pub found-looped : a ≡ Looped → ¬ LoopFree N
-  found-looped e = subst (FoundIs N firsts order block reached) e f
+  pub found-looped : (n : ℕ) → a ≡ Looped n → LowestLoop N n
+  found-looped n e = subst (FoundIs N firsts order block reached) e f
 
   pub found-deep : (y : ℕ) → a ≡ TooDeep y → LoopFree N × LowestDeep N y
   found-deep y e = subst (FoundIs N firsts order block reached) e f
@@ -79,8 +80,10 @@ module _ (file : List ℕ) (r : Tables) (z : Sizes) (h : Holds file r z) where
   pub tables-pins : z .pins ≡ allPins (tablesChip r z)
   tables-pins = h .pins ∙ ap allPins (sym tables-chip)
 
-  pub opens-looped : ¬ LoopFree (tablesChip r z) → Opens file (refused 9 0)
-  opens-looped g = looped (h .read) (subst (λ N. ¬ LoopFree N) tables-chip g)
+  pub opens-looped : (n : ℕ) → LowestLoop (tablesChip r z) n → Opens file (refused 9 n)
+  opens-looped n l =
+      let l′ : LowestLoop (chipOf (h .x)) n = subst (λ N. LowestLoop N n) tables-chip l in
+      looped (h .read) (l′ .loops) (l′ .none-below)
 
   pub opens-deep : (y : ℕ) → LoopFree (tablesChip r z) × LowestDeep (tablesChip r z) y → Opens file (refused 10 y)
   opens-deep y d =

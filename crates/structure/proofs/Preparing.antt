@@ -7,10 +7,10 @@ use native.Mathlib.Decide.{decLt}
 use lib.ListN.{getD}
 use Rattle.chip.specs.Netlist.{Netlist, InLimits}
 use Rattle.chip.specs.Inner.Tables.{FirstPins}
-use Rattle.chip.specs.Class.{LoopFree, Lowest, blocks}
+use Rattle.chip.specs.Class.{Lowest, blocks}
 use Rattle.chip.proofs.Blocks.{counted}
 use Rattle.order.specs.Order.{Ordered}
-use Rattle.order.specs.Settled.{Settled}
+use Rattle.order.specs.Settled.{LoopFrom, Settled}
 use Rattle.order.specs.declared.Ordering.{Ordering}
 use Rattle.order.specs.declared.Ordering.the-variants.{Done, Loop}
 use Rattle.order.proofs.Order.{order-free}
@@ -24,8 +24,8 @@ use Rattle.structure.proofs.Evenness.{blocks-own, place-11}
 use Rattle.structure.proofs.ClassNumber.{class-is, reach-mask}
 
 -- what the order and the depth said, once the answer is known
-pub settled-loop : (N : Netlist) (order : List ℕ) (r : Ordering) → Settled N order r → r ≡ Loop → ¬ LoopFree N
-settled-loop N order r s e free = let (m, f) = subst (Settled N order) e s in free m f
+pub settled-loop : (N : Netlist) (order : List ℕ) (r : Ordering) (j : ℕ) → Settled N order r → r ≡ Loop j → LoopFrom N j
+settled-loop N order r j s e = subst (Settled N order) e s
 
 pub settled-done : (N : Netlist) (order : List ℕ) (r : Ordering) → Settled N order r → r ≡ Done → Ordered N order
 settled-done N order r s e = subst (Settled N order) e s

@@ -28,9 +28,9 @@ pub struct Shape {
     pub place: usize,
 }
 
-// A netlist with a loop, one with an output that is too deep, or a chip that is prepared.
+// A netlist with a loop, with the lowest net that reaches itself; one with an output that is too deep; or a chip that is prepared.
 pub enum Found {
-    Looped,
+    Looped(usize),
     TooDeep(usize),
     Chip(Shape),
 }
@@ -255,8 +255,8 @@ pub fn prepare(
     let mut low = [0u16; 4096];
     order::first_pins(counts, c, firsts);
     match order::order_cells(i, c, firsts, nets, order) {
-        Ordering::Loop => {
-            return Found::Looped;
+        Ordering::Loop(j) => {
+            return Found::Looped(loops::lowest_on_loop(i, c, firsts, nets, j));
         }
         Ordering::Done => {}
     }
@@ -336,7 +336,7 @@ pub fn class_of(file: &[u8]) -> Classed
         &mut block,
         &mut reached,
     ) {
-        Found::Looped => Classed::Refused(9, 0),
+        Found::Looped(m) => Classed::Refused(9, m),
         Found::TooDeep(y) => Classed::Refused(10, y),
         Found::Chip(s) => Classed::Class(s.class, s.depth, s.blocks),
     }

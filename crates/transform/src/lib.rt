@@ -242,7 +242,7 @@ fn transform_tables(
         &mut block,
         &mut reached,
     ) {
-        Found::Looped => Transformed::Refused(9, 0),
+        Found::Looped(m) => Transformed::Refused(9, m),
         Found::TooDeep(y) => Transformed::Refused(10, y),
         Found::Chip(s) => {
             let b = s.blocks;

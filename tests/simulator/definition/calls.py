@@ -50,7 +50,7 @@ def refuse_class(chip):
 
 def refuse_bytes(data):
     for at, byte in enumerate(data):
-        refuse(byte not in (0, 1), 14, at)
+        refuse(byte not in (0, 1), 18, at)
 
 
 def refuse_play(chip, play):
@@ -114,7 +114,7 @@ def read_back(data, z, play, clock, buffer):
     refuse_class(chip)
     refuse_play(chip, play)
     clocks = [play[at:at + chip.netlist.inputs] for at in range(0, len(play), chip.netlist.inputs)]
-    refuse(clock not in range(chip.depth, len(clocks)), 14, len(clocks))
+    refuse(clock not in range(chip.depth, len(clocks)), 19, len(clocks))
     refuse(len(buffer) < len(chip.blocks), 15, len(chip.blocks))
     for b, (i, block) in enumerate(chip.blocks):
         buffer[b] = sum(clocks[clock - e][i] for k, e in chip.ends_of(block) if k == z)

@@ -24,8 +24,8 @@ class Written:
         self.named = netlist.named()
         self.owner = [j for j, nets in enumerate(netlist.cells) for _ in nets]  # the cell of each pin but outputs'
         self.naming = [[p for p, named in enumerate(self.named) if named == net] for net in range(netlist.nets)]
-        if self.has_loop():
-            raise Refused(9, 0)
+        for net in self.looping():
+            raise Refused(9, net)
         self.paths_from, self.ends_from = {}, {}
         depth = [max(e for p in self.branches() for z, e in self.ends(p) if z == k)
                  for k in range(len(netlist.outputs))]
@@ -35,15 +35,15 @@ class Written:
         self.depth = max(depth)
         self.blocks = [(i, block) for i in range(netlist.inputs) for block in self.finest(self.naming[i])]
 
-    def has_loop(self):
-        """Whether some net reaches itself, by closing the relation "feeds"."""
+    def looping(self):
+        """The nets that reach themselves through at least one cell, lowest first, by closing the relation "feeds"."""
         netlist = self.netlist
         feeds = [{netlist.inputs + self.owner[p] for p in pins if p < len(self.owner)} for pins in self.naming]
         for middle in range(netlist.nets):
             for fed in feeds:
                 if middle in fed:
                     fed |= feeds[middle]
-        return any(net in fed for net, fed in enumerate(feeds))
+        return [net for net, fed in enumerate(feeds) if net in fed]
 
     def branches(self):
         return [p for p, net in enumerate(self.named) if net < self.netlist.inputs]

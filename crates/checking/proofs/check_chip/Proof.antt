@@ -11,8 +11,8 @@ prepare-requires c κs =
     let s = c .before .before .before .before .before in
     (s .pre .0, (s .pre .1, λ l b. getD-replicate 4160 l 0 0 b))
 
-enum-told : tie.Need-enum-told
-enum-told c = search needs
+enum-known-m : tie.Need-enum-known-m
+enum-known-m c = search needs
 
 enum-known-y : tie.Need-enum-known-y
 enum-known-y c = search needs
@@ -28,7 +28,7 @@ check-fault-requires c κs =
     (record { limits = s .pre .0; first-pins = S .first-pins; within = S .prepared .depth .within }, (S .ordered, sym (s .pre .1)))
 
 returns : tie.Need-returns
-returns c = looped (found-looped _ _ _ _ _ _ (c .before .before .prepare .ensures) (c .enum-told .given .1))
+returns c = looped (found-looped _ _ _ _ _ _ (c .before .before .before .prepare .ensures) _ (c .before .m .given .1))
 
 returns-2 : tie.Need-returns-2
 returns-2 c = deep (found-deep _ _ _ _ _ _ (c .before .before .before .prepare .ensures) _ (c .before .y .given .1))
@@ -41,7 +41,7 @@ check-chip-spec =
     tie.close
     (tie.spec
     prepare-requires
-    enum-told
+    enum-known-m
     enum-known-y
     enum-known-s
     check-fault-requires

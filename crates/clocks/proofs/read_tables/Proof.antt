@@ -11,8 +11,8 @@ prepare-requires c κs =
     let h = s .pre .1 in
     (tables-limits _ _ _ h, (tables-pins _ _ _ h, λ l b. getD-replicate 4160 l 0 0 b))
 
-enum-told : tie.Need-enum-told
-enum-told c = search needs
+enum-known-m : tie.Need-enum-known-m
+enum-known-m c = search needs
 
 enum-known-y : tie.Need-enum-known-y
 enum-known-y c = search needs
@@ -30,8 +30,8 @@ read-chip-requires c κs =
 
 returns : tie.Need-returns
 returns c =
-    let p = c .before .before in
-    λ file h. ReadReply.refuses (opens-looped file _ _ h (found-looped _ _ _ _ _ _ (p .prepare .ensures) (c .enum-told .given .1)))
+    let p = c .before .before .before in
+    λ file h. ReadReply.refuses (opens-looped file _ _ h _ (found-looped _ _ _ _ _ _ (p .prepare .ensures) _ (c .before .m .given .1)))
 
 returns-2 : tie.Need-returns-2
 returns-2 c =
@@ -52,7 +52,7 @@ read-tables-spec =
     tie.close
     (tie.spec
     prepare-requires
-    enum-told
+    enum-known-m
     enum-known-y
     enum-known-s
     read-chip-requires

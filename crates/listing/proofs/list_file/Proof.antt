@@ -23,8 +23,8 @@ enum-known-reading-2 c = search needs
 prepare-requires : tie.Need-prepare-requires
 prepare-requires c κs = let h = holds _ _ _ (c .before .before .before .before .before .before .before .before .before .before .before .before .before .read .ensures) (c .before .before .before .before .before .before .before .before .before .before .before .reading2 .given .1) in (tables-limits _ _ _ h, (tables-pins _ _ _ h, λ l b. getD-replicate 4160 l 0 0 b))
 
-enum-told : tie.Need-enum-told
-enum-told c = search needs
+enum-known-m : tie.Need-enum-known-m
+enum-known-m c = search needs
 
 refused-requires-2 : tie.Need-refused-requires-2
 refused-requires-2 c κs = search needs
@@ -72,7 +72,7 @@ list-file-spec =
     returns
     enum-known-reading-2
     prepare-requires
-    enum-told
+    enum-known-m
     refused-requires-2
     returns-2
     enum-known-y

@@ -10,11 +10,11 @@ prepare-requires c κs =
     let h = c .before .before .before .before .before .before .before .before .before .before .before .pre .1 in
     (tables-limits _ _ _ h, (tables-pins _ _ _ h, λ l b. getD-replicate 4160 l 0 0 b))
 
-enum-told : tie.Need-enum-told
-enum-told c = search needs
+enum-known-m : tie.Need-enum-known-m
+enum-known-m c = search needs
 
 returns : tie.Need-returns
-returns c file h = refuses (opens-looped file _ _ h (found-looped _ _ _ _ _ _ (c .before .before .prepare .ensures) (c .enum-told .given .1)))
+returns c file h = refuses (opens-looped file _ _ h _ (found-looped _ _ _ _ _ _ (c .before .before .before .prepare .ensures) _ (c .before .m .given .1)))
 
 enum-known-y : tie.Need-enum-known-y
 enum-known-y c = search needs
@@ -53,7 +53,7 @@ search-tables-spec =
     tie.close
     (tie.spec
     prepare-requires
-    enum-told
+    enum-known-m
     returns
     enum-known-y
     returns-2

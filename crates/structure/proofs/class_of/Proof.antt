@@ -24,8 +24,8 @@ prepare-requires c κs =
     let h = holds _ _ _ (k .before .before .before .read .ensures) (k .before .reading2 .given .1) in
     (tables-limits _ _ _ h, (tables-pins _ _ _ h, λ l b. getD-replicate 4160 l 0 0 b))
 
-enum-told : tie.Need-enum-told
-enum-told c = search needs
+enum-known-m : tie.Need-enum-known-m
+enum-known-m c = search needs
 
 enum-known-y : tie.Need-enum-known-y
 enum-known-y c = search needs
@@ -35,10 +35,10 @@ enum-known-s c = search needs
 
 returns-2 : tie.Need-returns-2
 returns-2 c =
-    let p = c .before .before in
+    let p = c .before .before .before in
     let k = p .before .before .before .before .before .before .before .before .before .before .before in
     let h = holds _ _ _ (k .before .before .before .read .ensures) (k .before .reading2 .given .1) in
-    refuses (opens-looped _ _ _ h (found-looped _ _ _ _ _ _ (p .prepare .ensures) (c .enum-told .given .1)))
+    refuses (opens-looped _ _ _ h _ (found-looped _ _ _ _ _ _ (p .prepare .ensures) _ (c .before .m .given .1)))
 
 returns-3 : tie.Need-returns-3
 returns-3 c =
@@ -63,7 +63,7 @@ class-of-spec =
     returns
     enum-known-reading-2
     prepare-requires
-    enum-told
+    enum-known-m
     enum-known-y
     enum-known-s
     returns-2

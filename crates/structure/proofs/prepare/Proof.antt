@@ -18,20 +18,28 @@ order-cells-requires c κs =
     let a = s .args in
     wired (a .i) (a .c) (a .o) (a .kinds .now) (a .counts .now) _ (a .nets .now) (c .before .before .first-pins .ensures (a .i) (a .o) (a .kinds .now) (a .nets .now)) (s .pre .0)
 
-enum-told : tie.Need-enum-told
-enum-told c = search needs
+enum-known-j : tie.Need-enum-known-j
+enum-known-j c = search needs
+
+lowest-on-loop-requires : tie.Need-lowest-on-loop-requires
+lowest-on-loop-requires c κs =
+    let f = c .before .before .before .before .before .before .before in
+    let s = f .before .before in
+    let a = s .args in
+    wired (a .i) (a .c) (a .o) (a .kinds .now) (a .counts .now) _ (a .nets .now) (f .first-pins .ensures (a .i) (a .o) (a .kinds .now) (a .nets .now)) (s .pre .0)
 
 returns : tie.Need-returns
 returns c =
-    let o = c .before .before in
+    let k = c .before .before .before in
+    let o = k .before .before in
     let f = o .before .before .before in
     let s = f .before .before in
     let a = s .args in
     let F = f .first-pins .ensures (a .i) (a .o) (a .kinds .now) (a .nets .now) in
-    settled-loop _ _ _ (o .order-cells .ensures (a .o) (a .kinds .now) (a .counts .now) F) (c .enum-told .given .1)
+    c .lowest-on-loop .ensures (a .o) (a .kinds .now) (a .counts .now) F (settled-loop _ _ _ _ (o .order-cells .ensures (a .o) (a .kinds .now) (a .counts .now) F) (k .j .given .1))
 
-enum-told-2 : tie.Need-enum-told-2
-enum-told-2 c = search needs
+enum-told : tie.Need-enum-told
+enum-told c = search needs
 
 join-blocks-requires : tie.Need-join-blocks-requires
 join-blocks-requires c κs =
@@ -41,7 +49,7 @@ join-blocks-requires c κs =
     let s = f .before .before in
     let a = s .args in
     let F = f .first-pins .ensures (a .i) (a .o) (a .kinds .now) (a .nets .now) in
-    (s .pre .0, (s .pre .1 .0, (F, settled-done _ _ _ (o .order-cells .ensures (a .o) (a .kinds .now) (a .counts .now) F) (t .enum-told2 .given .1))))
+    (s .pre .0, (s .pre .1 .0, (F, settled-done _ _ _ (o .order-cells .ensures (a .o) (a .kinds .now) (a .counts .now) F) (t .enum-told .given .1))))
 
 enum-known-z : tie.Need-enum-known-z
 enum-known-z c = search needs
@@ -55,7 +63,7 @@ returns-2 c =
     let s = f .before .before in
     let a = s .args in
     let F = f .first-pins .ensures (a .i) (a .o) (a .kinds .now) (a .nets .now) in
-    let O = settled-done _ _ _ (o .order-cells .ensures (a .o) (a .kinds .now) (a .counts .now) F) (t .enum-told2 .given .1) in
+    let O = settled-done _ _ _ (o .order-cells .ensures (a .o) (a .kinds .now) (a .counts .now) F) (t .enum-told .given .1) in
     (order-free O, depth-over _ _ _ _ (jb .join-blocks .ensures) (c .before .z .given .1))
 
 enum-known-d : tie.Need-enum-known-d
@@ -81,7 +89,7 @@ lowest-uneven-requires c κs =
     let s = f .before .before in
     let a = s .args in
     let F = f .first-pins .ensures (a .i) (a .o) (a .kinds .now) (a .nets .now) in
-    let O = settled-done _ _ _ (o .order-cells .ensures (a .o) (a .kinds .now) (a .counts .now) F) (t .enum-told2 .given .1) in
+    let O = settled-done _ _ _ (o .order-cells .ensures (a .o) (a .kinds .now) (a .counts .now) F) (t .enum-told .given .1) in
     let N : Netlist = tabled (a .i) (a .c) (a .o) (a .kinds .now) (a .counts .now) (a .nets .now) in
     (s .pre .0, (s .pre .1 .0, (F, (O, ((D .shallow, D .depth .within), (nets-few N (a .nets .now) (s .pre .0) (λ p. refl), (nets-own N (a .nets .now) (λ p. refl), λ l h. getD-replicate 4160 l 0 0 h)))))))
 
@@ -97,7 +105,7 @@ lowest-uneven-requires-2 c κs =
     let s = f .before .before in
     let a = s .args in
     let F = f .first-pins .ensures (a .i) (a .o) (a .kinds .now) (a .nets .now) in
-    let O = settled-done _ _ _ (o .order-cells .ensures (a .o) (a .kinds .now) (a .counts .now) F) (t .enum-told2 .given .1) in
+    let O = settled-done _ _ _ (o .order-cells .ensures (a .o) (a .kinds .now) (a .counts .now) F) (t .enum-told .given .1) in
     let n = nb .number-blocks .ensures in
     (s .pre .0, (s .pre .1 .0, (F, (O, ((D .shallow, D .depth .within), (blocks-few _ (s .pre .0) _ (D .lowest) _ _ n, (blocks-one _ (s .pre .0) _ (D .lowest) _ _ n, s .pre .1 .1)))))))
 
@@ -118,7 +126,7 @@ returns-3 c =
     let s = f .before .before in
     let a = s .args in
     let F = f .first-pins .ensures (a .i) (a .o) (a .kinds .now) (a .nets .now) in
-    let O = settled-done _ _ _ (o .order-cells .ensures (a .o) (a .kinds .now) (a .counts .now) F) (t .enum-told2 .given .1) in
+    let O = settled-done _ _ _ (o .order-cells .ensures (a .o) (a .kinds .now) (a .counts .now) F) (t .enum-told .given .1) in
     shaped _ (s .pre .0) _ (D .lowest) _ _ (nb .number-blocks .ensures) (a .nets .now) (λ p. refl) _ _ _ _ _ _ _ _ F O D (u .lowest-uneven .ensures) (u2 .lowest-uneven2 .ensures) (c .classify .ensures)
 
 pub prepare-spec : {M : Type 1} → statement M
@@ -127,9 +135,10 @@ prepare-spec =
     (tie.spec
     first-pins-requires
     order-cells-requires
-    enum-told
+    enum-known-j
+    lowest-on-loop-requires
     returns
-    enum-told-2
+    enum-told
     join-blocks-requires
     enum-known-z
     returns-2

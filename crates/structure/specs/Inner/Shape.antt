@@ -8,6 +8,7 @@ use Rattle.chip.specs.Inner.Tables.{FirstPins}
 use Rattle.chip.specs.Class.{LoopFree, Branch, Depth, Lowest, Prepared, blocks}
 use Rattle.chip.specs.Clocks.{BlockReaches}
 use Rattle.order.specs.Order.{Ordered}
+use Rattle.loops.specs.Loops.{LowestLoop}
 use Rattle.levels.specs.Levels.{Mask, MasksBefore, AnyReach}
 use Rattle.blocks.specs.Labels.{LevelJoined, BlockTable}
 use Rattle.balance.specs.Balance.{SeenMasks, LowestUneven}
@@ -68,6 +69,6 @@ pub record Shaped (N : Netlist) (firsts order block reached : List ℕ) (s : Sha
   pub place : s .class ≡ 1 → When11 N (s .place)
 
 abbrev pub FoundIs : Netlist → List ℕ → List ℕ → List ℕ → List ℕ → Found → Type 0
-FoundIs N firsts order block reached Looped = ¬ LoopFree N
+FoundIs N firsts order block reached (Looped n) = LowestLoop N n
 FoundIs N firsts order block reached (TooDeep z) = LoopFree N × LowestDeep N z
 FoundIs N firsts order block reached (Chip s) = Shaped N firsts order block reached s

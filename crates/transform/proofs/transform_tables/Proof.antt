@@ -9,8 +9,8 @@ use Rattle.transform.proofs.transform_tables.Tie as tie
 prepare-requires : tie.Need-prepare-requires
 prepare-requires c κs = let s = c .before .before .before .before .before in (s .pre .0, (s .pre .1 .0, λ l b. getD-replicate 4160 l 0 0 b))
 
-enum-told : tie.Need-enum-told
-enum-told c = search needs
+enum-known-m : tie.Need-enum-known-m
+enum-known-m c = search needs
 
 enum-known-y : tie.Need-enum-known-y
 enum-known-y c = search needs
@@ -22,7 +22,7 @@ put-chip-requires : tie.Need-put-chip-requires
 put-chip-requires c κs = search needs
 
 returns : tie.Need-returns
-returns c file reading pads h = refuses (opens-looped file _ _ h (found-looped _ _ _ _ _ _ (c .before .before .prepare .ensures) (c .enum-told .given .1)))
+returns c file reading pads h = refuses (opens-looped file _ _ h _ (found-looped _ _ _ _ _ _ (c .before .before .before .prepare .ensures) _ (c .before .m .given .1)))
 
 returns-2 : tie.Need-returns-2
 returns-2 c file reading pads h = refuses (opens-deep file _ _ h _ (found-deep _ _ _ _ _ _ (c .before .before .before .prepare .ensures) _ (c .before .y .given .1)))
@@ -39,7 +39,7 @@ transform-tables-spec =
     tie.close
     (tie.spec
     prepare-requires
-    enum-told
+    enum-known-m
     enum-known-y
     enum-known-s
     put-chip-requires
