@@ -8,23 +8,16 @@ use native.Mathlib.Omega.{arith}
 use native.Mathlib.Decide.{decLt, ℕ-discrete}
 use lib.ListN.{getD, set}
 use lib.Dec.{ltb}
-use borrow.Author.Tests.{lt-ltb, le-ltb, ltb-true, ltb-false}
+use borrow.Author.Tests.{ltb-true, ltb-false}
 use borrow.Author.Count.{below-more}
 use Rattle.chip.specs.Class.{Feeds, direct, via}
 use Rattle.chip.specs.Inner.Tables.{FirstPins, tabled}
 use Rattle.chip.proofs.Loops.{fed-cell, feeds-on}
 use Rattle.order.specs.Placed.{PinAt, Wired, Listed, fed}
 use Rattle.order.proofs.Listed.{old, new, other, mark, listed-more}
-use Rattle.order.proofs.Order.{fed-true, fed-false, pin-of, pin-at}
+use Rattle.order.proofs.Order.{fed-input, fed-place, fed-true, fed-false, pin-of, pin-at}
 use Rattle.loops.specs.Loops.{OnLoop}
 use Rattle.loops.specs.Walk.{Followed, Named, Walked}
-
--- what the test says of a net that is an input, or driven by a cell with a place
-fed-input : (i n : ℕ) (places : List ℕ) → n < i → fed i places n ≡ true
-fed-input i n places l = rw (lt-ltb n i l)
-
-fed-place : (i n : ℕ) (places : List ℕ) → i ≤ n → 0 < getD places (n - i) 0 → fed i places n ≡ true
-fed-place i n places l m = rw (le-ltb n i l, lt-ltb 0 (getD places (n - i) 0) m)
 
 -- Following a cell's pins begins with none,
 pub follow-start : {i c : ℕ} {firsts nets : List ℕ} {j : ℕ} {list places : List ℕ} {n from : ℕ} → Listed c list places n → from ≡ getD firsts j 0 → Followed i c firsts nets j list n list places n from

@@ -24,8 +24,9 @@ class Written:
         self.named = netlist.named()
         self.owner = [j for j, nets in enumerate(netlist.cells) for _ in nets]  # the cell of each pin but outputs'
         self.naming = [[p for p, named in enumerate(self.named) if named == net] for net in range(netlist.nets)]
-        for net in self.looping():
-            raise Refused(9, net)
+        looping = self.looping()
+        if looping:
+            raise Refused(9, looping[0])
         self.paths_from, self.ends_from = {}, {}
         depth = [max(e for p in self.branches() for z, e in self.ends(p) if z == k)
                  for k in range(len(netlist.outputs))]

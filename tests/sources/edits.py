@@ -1,0 +1,56 @@
+"""The must-fail edits. A file has one edit, or several of different functions, each behind a line `## NAME: what it shows`."""
+
+import re
+from dataclasses import dataclass
+
+from sources import tree
+from sources.functions import START, without_comments
+
+PART = re.compile(r"^## (\w+): (.+)$", re.M)
+
+
+@dataclass(frozen=True)
+class Edit:
+    crate: str
+    file: str  # without its ending
+    name: str
+    says: str
+    changes: tuple  # the old texts
+    alone: bool  # whether it is its file's only edit
+
+
+def edits_of(crate):
+    """The edits of a crate, file by file."""
+    for path in sorted((tree.CRATES / crate / "must-fail").glob("*.edit")):
+        text = path.read_text()
+        parts = PART.split(text)[1:]
+        if not parts:
+            parts = [path.stem, text.splitlines()[0].removeprefix("# ") if text.startswith("# ") else "", text]
+        for name, says, body in zip(parts[::3], parts[1::3], parts[2::3]):
+            changes = tuple(re.findall(r"^old: (.*)$", body, re.M))
+            yield Edit(crate, path.stem, name, says, changes, len(parts) == 3)
+
+
+def log_of(edit):
+    """What the prover said of the file that an edit stands in."""
+    path = tree.ROOT / "target" / "must-fail" / edit.crate / edit.file / ".log"
+    return path.read_text() if path.exists() else ""
+
+
+def functions_edited(edit):
+    """The functions whose code an edit changes."""
+    found = set()
+    for path in tree.files(edit.crate, "src", "rt"):
+        text = without_comments(path.read_text())
+        for old in edit.changes:
+            at = text.find(old)
+            starts = [start.group(2) for start in START.finditer(text) if start.start() < at]
+            found.update(starts[-1:])
+    return found
+
+
+def is_refused(edit, function):
+    """Whether the log has a function refused at a need of its own, and not only because a function that it calls is."""
+    own = re.escape(function.replace("_", "-"))
+    return re.search(rf"/proofs/{function}/Proof\.antt:\d+:\d+: error: `(?!{own}-spec`)"
+                     rf"|^fn {edit.crate}::{function}: no proof: .*`returns", log_of(edit), re.M) is not None
