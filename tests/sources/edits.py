@@ -49,8 +49,9 @@ def functions_edited(edit):
     return found
 
 
-def is_refused(edit, function):
-    """Whether the log has a function refused at a need of its own, and not only because a function that it calls is."""
-    own = re.escape(function.replace("_", "-"))
-    return re.search(rf"/proofs/{function}/Proof\.antt:\d+:\d+: error: `(?!{own}-spec`)"
-                     rf"|^fn {edit.crate}::{function}: no proof: .*`returns", log_of(edit), re.M) is not None
+def refused(edit):
+    """The functions that the log has refused at a need of their own, and not only because a function that they call is."""
+    log = log_of(edit)
+    needs = re.findall(r"/proofs/(\w+)/Proof\.antt:\d+:\d+: error: `([^`]*)`", log)
+    unproved = re.findall(rf"^fn {edit.crate}::(\w+): no proof: .*`returns(?:-\d+)?`", log, re.M)
+    return {name for name, need in needs if need != name.replace("_", "-") + "-spec"}.union(unproved)
