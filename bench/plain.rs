@@ -13,6 +13,7 @@ struct Chip {
     outs: usize,
     nets: Vec<usize>,
     order: Vec<usize>,
+    branch: Vec<usize>,
 }
 
 fn word(file: &[u8], at: &mut usize) -> usize {
@@ -51,7 +52,34 @@ fn read(file: &[u8]) -> Chip {
             }
         }
     }
-    Chip { inputs, cells, outs, nets, order }
+    // the input that each net is or is a pad buffer of, and the input that each pin is a branch of; other numbers are no input
+    let mut source: Vec<usize> = (0..inputs + count).collect();
+    for &j in order.iter().filter(|&&j| cells[j].kind == 0) {
+        let fed = source[nets[cells[j].first]];
+        if fed < inputs {
+            source[inputs + j] = fed;
+        }
+    }
+    let mut branch: Vec<usize> = nets.iter().map(|&n| source[n]).collect();
+    for j in (0..count).filter(|&j| source[inputs + j] < inputs) {
+        branch[cells[j].first] = inputs;
+    }
+    Chip { inputs, cells, outs, nets, order, branch }
+}
+
+// Whether a stuck site decides what pin p sees: it is the pin, the net that it names, or for a branch the net or the pin of a pad buffer on its way.
+fn decides(chip: &Chip, site: usize, p: usize) -> bool {
+    let nets_n = chip.inputs + chip.cells.len();
+    if p + nets_n == site || chip.nets[p] == site {
+        return true;
+    }
+    let n = chip.nets[p];
+    chip.branch[p] < chip.inputs && n >= chip.inputs && decides_buffer(chip, site, chip.cells[n - chip.inputs].first)
+}
+
+fn decides_buffer(chip: &Chip, site: usize, p: usize) -> bool {
+    let (n, nets_n) = (chip.nets[p], chip.inputs + chip.cells.len());
+    p + nets_n == site || n == site || n >= chip.inputs && decides_buffer(chip, site, chip.cells[n - chip.inputs].first)
 }
 
 // The outputs that each pin reaches at one depth, from those of the nets at the depth before; with `any` flip-flops count for nothing.
@@ -119,7 +147,7 @@ fn main() {
         }
         for x in 0..chip.inputs {
             for z in 0..chip.outs {
-                let met: Vec<usize> = (0..pins_n).filter(|&p| chip.nets[p] == x && pins[p] >> z & 1 == 1).collect();
+                let met: Vec<usize> = (0..pins_n).filter(|&p| chip.branch[p] == x && pins[p] >> z & 1 == 1).collect();
                 for pair in met.windows(2) {
                     let (a, b) = (low[pair[0]].min(low[pair[1]]), low[pair[0]].max(low[pair[1]]));
                     low.iter_mut().for_each(|l| if *l == b { *l = a });
@@ -135,7 +163,7 @@ fn main() {
     for x in 0..chip.inputs {
         let from = blocks;
         for p in 0..pins_n {
-            if chip.nets[p] == x {
+            if chip.branch[p] == x {
                 block[p] = if low[p] == p { blocks += 1; blocks - 1 } else { block[low[p]] };
             }
         }
@@ -146,10 +174,10 @@ fn main() {
     let mut seen = vec![0u64; chip.inputs];
     for pins in &levels {
         let mut now = vec![0u64; chip.inputs];
-        for p in (0..pins_n).filter(|&p| chip.nets[p] < chip.inputs) {
+        for p in (0..pins_n).filter(|&p| chip.branch[p] < chip.inputs) {
             reached[block[p]] |= pins[p];
-            class3 &= seen[chip.nets[p]] & pins[p] == 0;
-            now[chip.nets[p]] |= pins[p];
+            class3 &= seen[chip.branch[p]] & pins[p] == 0;
+            now[chip.branch[p]] |= pins[p];
         }
         (0..chip.inputs).for_each(|x| seen[x] |= now[x]);
     }
@@ -173,11 +201,12 @@ fn main() {
             for z in (0..chip.outs).filter(|&z| outs >> z & 1 == 1) {
                 let vars: Vec<usize> = (0..blocks).filter(|&b| reached[b] >> z & 1 == 1).collect();
                 let slot = |p: usize| match chip.nets[p] {
-                    n if n < chip.inputs => vars.iter().position(|&b| b == block[p]).map_or(1040, |s| s as u16),
+                    _ if chip.branch[p] < chip.inputs => vars.iter().position(|&b| b == block[p]).map_or(1040, |s| s as u16),
+                    n if n < chip.inputs => 1040,
                     n => (16 + n - chip.inputs) as u16,
                 };
                 let good: Vec<u16> = (0..pins_n).map(slot).collect();
-                let bad: Vec<u16> = (0..pins_n).map(|p| if hit(p) { 1041 } else { good[p] }).collect();
+                let bad: Vec<u16> = (0..pins_n).map(|p| if decides(&chip, site, p) { 1041 } else { good[p] }).collect();
                 let cone: Vec<usize> = chip.order.iter().copied().filter(|&j| cone_of[chip.cells[j].first] >> z & 1 == 1).collect();
                 let mut slots = vec![0u64; 1152];
                 slots[1041] = 0u64.wrapping_sub(stuck);
@@ -210,7 +239,7 @@ fn main() {
             for t in 0..=depth {
                 write!(text, " ").unwrap();
                 for x in 0..chip.inputs {
-                    let set = (0..pins_n).find(|&p| chip.nets[p] == x && levels[depth - t][p] >> z & 1 == 1);
+                    let set = (0..pins_n).find(|&p| chip.branch[p] == x && levels[depth - t][p] >> z & 1 == 1);
                     let value = set.map_or(0, |p| m >> vars.iter().position(|&b| b == block[p]).unwrap() & 1);
                     write!(text, "{}", value).unwrap();
                 }

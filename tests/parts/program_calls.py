@@ -6,9 +6,10 @@ from simulator import generators as g
 from simulator import programs
 from simulator.calls import (CHECK, CLASS, FIELDS, LONGEST, NAMES, READ, READ_BACK, SEARCH, SET, STRINGS, TRANSFORM,
                              Call, answer, encode)
-from simulator.draw import draw_calls
+from simulator.draw import draw_calls, writing
 from simulator.hits import MUST, hits
 from simulator.modes import BY_DEFINITION, FIRST
+from simulator.padded import files_at_the_limits
 from simulator.tally import Tally
 
 # The listing's netlist, P8, and one with several inputs, outputs and kinds.
@@ -117,8 +118,8 @@ def classes(volumes):
 
 
 def settings(volumes):
-    yield part((TRANSFORM, SET, READ_BACK),
-               draw_calls(random.Random(volumes.seed + 2), (TRANSFORM, SET, READ_BACK), volumes.settings, each=6))
+    rng, codes = random.Random(volumes.seed + 2), (TRANSFORM, SET, READ_BACK)
+    yield part(codes, draw_calls(rng, codes, volumes.settings, each=6) + writing(files_at_the_limits(rng)))
 
 
 def checks(volumes):

@@ -10,13 +10,16 @@ from simulator.faults import Found, all_faults
 from simulator.hits import LOOPS, hits, is_chain
 from simulator.looped import looped
 from simulator.modes import BY_DEFINITION, FIRST
+from simulator.pad_hits import COPIES, PADS
+from simulator.padded import padded
 from simulator.reading import read
 from simulator.structure import prepare
 from simulator.tally import Tally
 
 MUST = ["refused 9", "class 1", "class 2", "class 3", "chain of joined branches", "found", "untestable",
         "stuck input of several blocks", "dead branch", "input without branches", "shown", "not seen", "set", "read",
-        "written", "refused 14", "refused 18", "refused 19"] + LOOPS
+        "written", "refused 14", "refused 18", "refused 19", "several blocks of a stuck pad buffer"]
+MUST += LOOPS + PADS + COPIES
 
 
 def draw_small(rng):
@@ -27,7 +30,9 @@ def draw_small(rng):
             file = g.with_back_pins(rng, g.SMALL)
         elif shape < 0.1:
             file = looped(rng, g.SMALL)
-        elif shape < 0.6:
+        elif shape < 0.2:
+            file = padded(rng, g.SMALL)
+        elif shape < 0.65:
             file = g.balanced_or_internally(rng, g.SMALL)
         else:
             file = g.readable(rng, g.SMALL)

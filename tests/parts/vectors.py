@@ -13,7 +13,7 @@ from simulator.reading import Refused, read
 from simulator.tally import Tally
 
 FOLDER = Path(__file__).resolve().parents[1] / "vectors"
-SETS = ("W2",)  # those that must be there; others that are there are run too
+SETS = ("W2", "W3")  # those that must be there; others that are there are run too
 
 
 def names():

@@ -5,22 +5,29 @@ from simulator import generators as g
 from simulator.calls import CHECK, CLASS, LONGEST, READ_BACK, SEARCH, SET, TRANSFORM, Call
 from simulator.faults import NET, PIN
 from simulator.looped import largest_looped, looped
-from simulator.reading import Refused, write
+from simulator.padded import at_the_limit, beyond_the_limit, largest_padded, many_padded, padded
+from simulator.reading import Refused
 from simulator.structure import is_flip_flop, prepare
 
 FAR = (256, 65536, 2**31)  # added to a number: what is left of it in a narrower type is right again
 LAST = 2**32 - 1
+LONGEST_FILE = 10_374  # that reading takes
 
 SUPPLIES = (
-    (40, lambda rng: g.balanced_or_internally(rng, g.MIDDLE)),
-    (20, lambda rng: g.balanced_or_internally(rng, g.SMALL)),
+    (30, lambda rng: g.balanced_or_internally(rng, g.MIDDLE)),
+    (12, lambda rng: g.balanced_or_internally(rng, g.SMALL)),
     (10, lambda rng: g.readable(rng, g.MIDDLE)),
-    (8, lambda rng: g.damaged(rng, g.readable(rng, g.SMALL))),
+    (10, lambda rng: padded(rng, g.MIDDLE)),
+    (8, lambda rng: padded(rng, g.SMALL)),
+    (0.6, many_padded),
+    (0.3, at_the_limit),
+    (0.1, beyond_the_limit),
+    (12, lambda rng: g.damaged(rng, g.readable(rng, g.SMALL))),
     (2, lambda rng: g.with_back_pins(rng, g.MIDDLE)),
     (3, lambda rng: looped(rng, g.SMALL)),
     (4, lambda rng: looped(rng, g.MIDDLE)),
     (3, lambda rng: g.finish(g.unbalanced(rng, g.MIDDLE), rng)),
-    (3, lambda rng: g.cone(rng, rng.choice((15, 16, 17)))),
+    (4, lambda rng: g.cone(rng, rng.choice((15, 16, 17)))),
     (2, lambda rng: g.with_blocks(rng, rng.choice((63, 64, 65, 66)))),
     (1, g.deep),
     (0.5, lambda rng: g.too_many_pins(rng).file(rng)),
@@ -34,9 +41,12 @@ def any_file(rng):
 
 
 def largest_files(rng):
-    """Netlists of the largest sizes: with loops, with cones of at most 16 blocks, and with wider ones."""
+    """Netlists of the largest sizes: with loops, with cones of at most 16 blocks, with wider ones.
+
+    And with pad buffers: of the largest size once it is written, and too large to be written.
+    """
     return [largest_looped(rng), g.largest(rng).file(rng), g.largest(rng).shuffled(rng).file(rng),
-            g.largest(rng, groups=2).file(rng)]
+            g.largest(rng, groups=2).file(rng), largest_padded(rng), beyond_the_limit(rng)]
 
 
 def chip_of(file):
@@ -118,17 +128,20 @@ def site_sort(chip, sort, number):
     if sort == NET:
         if number >= netlist.nets:
             return None
-        if number < netlist.inputs:
-            return "input net"
-        return "flip-flop net" if is_flip_flop(netlist.kinds[number - netlist.inputs]) else "cell net"
+        return f"{cell_sort(chip, number - netlist.inputs)} net" if number >= netlist.inputs else "input net"
     if number >= netlist.pins:
         return None
-    if number >= chip.first_pin[-1]:
-        return "output pin"
-    return "flip-flop pin" if is_flip_flop(netlist.kinds[chip.cell_of(number)]) else "cell pin"
+    return f"{cell_sort(chip, chip.cell_of(number))} pin" if number < chip.first_pin[-1] else "output pin"
 
 
-SITE_SORTS = ("input net", "cell net", "flip-flop net", "cell pin", "flip-flop pin", "output pin")
+def cell_sort(chip, j):
+    if chip.is_pad_buffer(j):
+        return "pad buffer"
+    return "flip-flop" if is_flip_flop(chip.netlist.kinds[j]) else "cell"
+
+
+SITE_SORTS = ("input net", "cell net", "flip-flop net", "pad buffer net", "cell pin", "flip-flop pin", "pad buffer pin",
+              "output pin")
 
 
 def draw_fault(rng, chip):
@@ -154,7 +167,7 @@ def draw_call(rng, code, file):
     if code == CLASS:
         return Call(code, file)
     if code == TRANSFORM:
-        needed = len(write(transform.transformed(chip))) if chip and len(chip.blocks) <= 64 else 40
+        needed = min(transform.written_length(chip), LONGEST - 9) if chip else 40
         return Call(code, file, (draw_room(rng, needed),))
     if code == SET:
         if chip is None:
@@ -174,6 +187,11 @@ def draw_call(rng, code, file):
     if chip is None:
         return Call(SEARCH, file, (rng.randint(0, 1), rng.randint(0, 3), rng.randint(0, 2), rng.randint(0, 9)))
     return Call(SEARCH, file, (*draw_fault(rng, chip), draw_room(rng, clocks.play_length(chip))))
+
+
+def writing(files):
+    """Calls that write the transformed circuit of each file, with nothing lent and with enough for any."""
+    return [Call(TRANSFORM, file, (room,)) for file in files for room in (0, LONGEST_FILE)]
 
 
 def draw_calls(rng, codes, count, each=5):

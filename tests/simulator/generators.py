@@ -126,9 +126,9 @@ def free(rng, size, back=0.0):
 
 
 def unbalanced(rng, size):
-    """Class 1: a net behind a gate goes on at two depths that meet again."""
+    """Class 1: a net behind a gate that is no pad buffer goes on at two depths that meet again."""
     draft = Draft(rng.randint(1, size.inputs))
-    late = draft.cell(rng.choice(STRAIGHT), rng.randrange(draft.inputs))
+    late = draft.chain(rng.choice(((NOT,), (BUF, NOT), (NOT, BUF))), rng.randrange(draft.inputs))
     early = draft.chain(rng.choices(FLIP_FLOPS, k=rng.randint(1, 2)), late)
     met = draft.cell(rng.choice(WIDE), late, early)
     for _ in range(rng.randint(0, 2)):
@@ -138,9 +138,14 @@ def unbalanced(rng, size):
 
 
 def joined(rng, size):
-    """Chains of joined branches: output k joins branches k and k+1 of one input, here and there with a gap."""
+    """Chains of joined branches: output k joins branches k and k+1 of one input, here and there with a gap.
+
+    What hangs from a BUF alone are branches of their own, which join nothing.
+    """
     draft = Draft(rng.randint(1, min(2, size.inputs)))
-    branches = [draft.chain(rng.choices(STRAIGHT, k=1), 0) for _ in range(rng.randint(3, size.branches))]
+    straight = rng.choice(((NOT,), (BUF, NOT)))
+    branches = [draft.chain((BUF,) if rng.random() < 0.1 else straight, 0)
+                for _ in range(rng.randint(3, size.branches))]
     pairs = [pair for pair in zip(branches, branches[1:]) if rng.random() < 0.8]
     rng.shuffle(pairs)
     for a, b in pairs[:size.outputs] or [(branches[0], branches[1])]:
@@ -228,12 +233,14 @@ def wide_cone(rng, blocks):
 
 
 def many_blocks(rng, blocks):
-    """So many blocks in all: dead branches, and branches with outputs of their own."""
+    """So many blocks in all: dead branches, some behind a pad buffer, and branches with outputs of their own."""
     draft = Draft(rng.randint(1, MOST_INPUTS))
-    while len(draft.outputs) < min(4, draft.inputs):
-        draft.outputs.append(len(draft.outputs))
+    draft.outputs = list(range(min(4, draft.inputs)))
+    pads = list(draft.outputs)
     for _ in range(blocks - draft.inputs):
-        draft.cell(rng.choice(STRAIGHT + FLIP_FLOPS), rng.randrange(min(4, draft.inputs)))
+        if rng.random() < 0.1:
+            pads.append(draft.cell(BUF, rng.choice(pads)))
+        draft.cell(rng.choice((NOT,) + FLIP_FLOPS), rng.choice(pads))
     return draft
 
 

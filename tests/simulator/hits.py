@@ -6,9 +6,12 @@ from simulator.calls import CHECK, CLASS, FIELDS, READ, READ_BACK, SEARCH, SET, 
 from simulator.clocks import MOST_CLOCKS, play_length
 from simulator.draw import SITE_SORTS, chip_of, site_sort
 from simulator.loops import left_over, links, loops, spread
+from simulator.pad_hits import COPIES, LIMITS, PADS, copy_hits, limit_hits, pad_hits
+from simulator.pads import copies
 from simulator.reading import MOST_CELLS, MOST_INPUTS, MOST_PINS, read
-from simulator.search import MOST_BLOCKS_TRIED, reached
+from simulator.search import MOST_BLOCKS_TRIED, reached, stuck_pins
 from simulator.structure import is_flip_flop
+from simulator.transform import written_length
 
 
 def refusals(*numbers):
@@ -30,10 +33,12 @@ MUST = {
     READ: ["taken", "7 at a pin count", "7 at the output count"] + refusals(*range(1, 9)),
     CLASS: ["class 1", "class 2", "class 3", "nets out of order", "dead cell", "input without branches",
             "one net on several outputs", "one net twice in a cell", "chain of joined branches", "dead branches apart",
-            "64 blocks", "65 blocks", "16 blocks to an output", "17 blocks to an output", "depth 255", "largest"]
-    + STRUCTURE + LOOPS,
-    TRANSFORM: ["written", "one byte short", "longer buffer", "class 1 written", "64 blocks", "17 at 65",
-                "17 before 15", "largest"] + STRUCTURE + refusals(15, 17),
+            "64 blocks", "65 blocks", "16 blocks to an output", "17 blocks to an output", "depth 255", "largest",
+            "64 inputs and pad buffers"]
+    + STRUCTURE + LOOPS + PADS,
+    TRANSFORM: ["written", "one byte short", "longer buffer", "class 1 written", "class 1 with copies", "64 blocks",
+                "17 at 65", "largest"]
+    + STRUCTURE + COPIES + LIMITS + orders(17, 2, 7, 15) + refusals(15, 17),
     SET: ["set", "one byte short", "longer buffer", "14 pattern too short", "14 pattern too long",
           "over 64 blocks set", "11 at a later place", "largest"]
     + STRUCTURE + BYTES + orders(13, 11, 14, 18, 15) + refusals(11, 13, 14, 15, 18),
@@ -49,7 +54,8 @@ MUST = {
     SEARCH: ["found", "untestable", "reaches none", "reaches one", "reaches several", "found at a later output",
              "tries over several outputs", "16 blocks", "one byte short", "longer buffer", "too short and reaches none",
              "12 site", "12 stuck value", "12 before 11", "16 before 15", "11 at a later place", "16 at a later place",
-             "several blocks of a stuck input", "largest"]
+             "several blocks of a stuck input", "several blocks of a stuck pad buffer", "past the limits of writing",
+             "largest"]
     + [f"{sort} found" for sort in SITE_SORTS] + STRUCTURE + refusals(11, 12, 15, 16),
 }
 
@@ -85,7 +91,7 @@ def shape_hits(chip):
 def needed_room(call, chip):
     """The length of the buffer that a call needs."""
     if call.code == TRANSFORM:
-        return len(call.file) + len(chip.blocks) - chip.netlist.inputs
+        return written_length(chip)
     return len(chip.blocks) if call.code == READ_BACK else play_length(chip)
 
 
@@ -113,6 +119,8 @@ def causes(call, chip):
         16: call.code == SEARCH and known and any(len(chip.reaching[z]) > MOST_BLOCKS_TRIED
                                                   for z in reached(chip, call.fault)),
         17: call.code == TRANSFORM and len(chip.blocks) > 64,
+        2: call.code == TRANSFORM and len(netlist.cells) + len(copies(chip)) > MOST_CELLS,
+        7: call.code == TRANSFORM and netlist.pins + len(copies(chip)) > MOST_PINS,
         18: spoilt(call),
         19: "clock" in fields and not chip.depth <= call.clock < clocks,
     }
@@ -198,6 +206,12 @@ def check_hits(chip, words):
     return hits
 
 
+def in_several_blocks(chip, fault):
+    """Whether a fault has pins stuck in several blocks that reach outputs."""
+    stuck = set(stuck_pins(chip, fault))
+    return sum(block.reach > 0 and not stuck.isdisjoint(block.pins) for block in chip.blocks) > 1
+
+
 def search_hits(call, chip, words):
     """Hits of a search that was not refused, or refused for its buffer alone."""
     if words[0] == "refused" and words[1] != "15":
@@ -213,8 +227,11 @@ def search_hits(call, chip, words):
             hits.append("found at a later output")
         if int(words[6]) > int(words[4]) + 1:
             hits.append("tries over several outputs")
-        if call.sort == 0 and sum(block.input == call.number and block.reach > 0 for block in chip.blocks) > 1:
-            hits.append("several blocks of a stuck input")
+        site = site_sort(chip, call.sort, call.number)
+        if site in ("input net", "pad buffer net", "pad buffer pin") and in_several_blocks(chip, call.fault):
+            hits.append(f"several blocks of a stuck {site.rsplit(' ', 1)[0]}")
+        if len(chip.netlist.cells) + len(copies(chip)) > MOST_CELLS:
+            hits.append("past the limits of writing")
     return hits
 
 
@@ -259,20 +276,20 @@ def hits(call, line):
     """All that a call with its answer hits."""
     words = line.split()
     found = [" ".join(words[:2]) if words[0] in ("refused", "class", "not") else words[0]]
-    if words[:2] == ["refused", "7"]:
+    chip = chip_of(call.file) if call.code != READ else None
+    if words[:2] == ["refused", "7"] and chip is None:
         found += seven_hits(call, int(words[3]))
     if words[0] == "refused" and words[1] in ("10", "11", "16") and words[3] != "0":
         found.append(f"{words[1]} at a later place")
     if words[:2] == ["refused", "9"]:
         found += loop_hits(read(call.file)) + ["9 before 18"] * spoilt(call)
-    chip = chip_of(call.file) if call.code != READ else None
     if chip is None:
         return found
     if is_largest(chip.netlist):
         found.append("largest")
     found += order_hits(call, chip, words) + byte_hits(call, words)
     if call.code == CLASS:
-        found += shape_hits(chip)
+        found += shape_hits(chip) + pad_hits(chip)
     if call.code in (READ_BACK, CHECK):
         found += play_hits(call, chip, words)
     if call.code == READ_BACK:
@@ -283,8 +300,11 @@ def hits(call, line):
         found += room_hits(call, words)
     if call.code in (CHECK, SEARCH):
         found += site_hits(call, chip, words)
+    if call.code == TRANSFORM:
+        found += limit_hits(chip, words)
     if call.code == TRANSFORM and words[0] == "written":
         found += ["class 1 written"] * (chip.class_number == 1) + ["64 blocks"] * (len(chip.blocks) == 64)
+        found += copy_hits(chip)
     if call.code == CHECK:
         found += check_hits(chip, words)
     if call.code == SEARCH:

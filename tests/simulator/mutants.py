@@ -1,13 +1,13 @@
-"""The slips that 01 rules out and those that W2 is open to, each put into the first mode on purpose for a while."""
+"""The slips that 01 rules out and those that W2 and W3 are open to, each put into the first mode for a while."""
 
 from contextlib import contextmanager
 from dataclasses import dataclass
 from typing import Any, Callable
 from unittest import mock
 
-from simulator import checking, clocks, loops, search, structure
+from simulator import checking, clocks, loops, pads, search, structure, transform
 from simulator.faults import NET
-from simulator.reading import Refused
+from simulator.reading import BUF, DFF, MOST_CELLS, MOST_PINS, Refused
 
 
 @dataclass(frozen=True)
@@ -83,7 +83,85 @@ def clock_by_14(chip, clock, clocks):
         raise Refused(14, clocks)
 
 
+def branches_with_pins_into_buffers(chip, _, net):
+    """A pin into a pad buffer is a branch too."""
+    return chip.pad[net] is not None
+
+
+def pads_of_first_buffers(netlist, _):
+    """Only a BUF that names an input itself is a pad buffer."""
+    return [*range(netlist.inputs), *(nets[0] if kind == BUF and nets[0] < netlist.inputs else None
+                                      for kind, nets in zip(netlist.kinds, netlist.cells))]
+
+
+def may_buffer_with_dff(kind):
+    """A DFF is a pad buffer as well as a BUF."""
+    return kind in (BUF, DFF)
+
+
+def every_block(chip):
+    """Copies for all blocks, the lowest of an input too."""
+    return range(len(chip.blocks))
+
+
+def all_buffers(chip, block):
+    """All pad buffers of the input, whether on the way to the block's branches or not."""
+    return {j for j in range(len(chip.netlist.cells)) if chip.pad[chip.netlist.inputs + j] == block.input}
+
+
+def copies_by_cell(chip):
+    """The copies by cell and then by block."""
+    return sorted(right_copies(chip), key=lambda copy: copy[::-1])
+
+
+def pins_of_lowest_block(chip, fault):
+    """A fault in a pad buffer stands in the original only, and so in the lowest block of its input."""
+    j = fault.number - chip.netlist.inputs if fault.sort == NET else chip.cell_of(fault.number)
+    pins = right_pins(chip, fault)
+    if 0 <= j < len(chip.netlist.cells) and chip.is_pad_buffer(j):
+        i = chip.pad[chip.netlist.inputs + j]
+        return set(pins).intersection(next(block.pins for block in chip.blocks if block.input == i))
+    return pins
+
+
+def output_pins_before_copies(chip, fault):
+    """An output's pin keeps its number, which in the transformed circuit is a copy's pin or another output's."""
+    k = fault.number - chip.first_pin[-1]
+    if fault.sort == NET or k < 0:
+        return right_pins(chip, fault)
+    copied = pads.copies(chip)
+    if k >= len(copied):
+        return [fault.number - len(copied)]
+    b, j = copied[k]
+    return set(pads.behind(chip, chip.netlist.inputs + j)).intersection(chip.blocks[b].pins)
+
+
+def refusals_of_writing(chip, copied):
+    """The three refusals of the transformed circuit, where they have their cause, by number."""
+    here = {17: len(chip.blocks) > transform.MOST_BLOCKS, 2: len(chip.netlist.cells) + len(copied) > MOST_CELLS,
+            7: chip.netlist.pins + len(copied) > MOST_PINS}
+    return {number: Refused(number, len(chip.blocks) if number == 17 else 0) for number in here if here[number]}
+
+
+def fit_in_order(*numbers):
+    """The refusals of writing in another order."""
+    def need_fit(chip, copied):
+        refusals = refusals_of_writing(chip, copied)
+        for number in numbers:
+            if number in refusals:
+                raise refusals[number]
+    return need_fit
+
+
+def narrow_and_fit(chip, fault):
+    """The search has the limits of the file too."""
+    right_narrow(chip, fault)
+    fit_in_order(2, 7)(chip, pads.copies(chip))
+
+
 right_pins = search.stuck_pins
+right_copies = pads.copies
+right_narrow = search.need_narrow
 
 SLIPS = (
     Slip("one play set for all outputs at once", clocks, "places", places_for_all_outputs),
@@ -96,6 +174,17 @@ SLIPS = (
     Slip("the lowest net of one loop only", loops, "lowest_on_a_loop", lowest_of_first_loop),
     Slip("a byte above 1 refused by 14", clocks, "need_bits", bits_by_14),
     Slip("a clock refused by 14", clocks, "need_clock", clock_by_14),
+    Slip("pins into pad buffers counted as branches", pads, "is_branch", branches_with_pins_into_buffers),
+    Slip("only the first pad buffer of a chain", pads, "pad_of_each_net", pads_of_first_buffers),
+    Slip("a DFF taken for a pad buffer", pads, "may_buffer", may_buffer_with_dff),
+    Slip("copies for the lowest block too", pads, "further_blocks", every_block),
+    Slip("all pad buffers of the input copied", pads, "on_the_way", all_buffers),
+    Slip("copies by cell and then by block", pads, "copies", copies_by_cell),
+    Slip("a fault in the original pad buffer only", search, "stuck_pins", pins_of_lowest_block),
+    Slip("output pins numbered before the copies'", search, "stuck_pins", output_pins_before_copies),
+    Slip("7 before 2 for the transformed circuit", transform, "need_fit", fit_in_order(17, 7, 2)),
+    Slip("2 before 17 for the transformed circuit", transform, "need_fit", fit_in_order(2, 17, 7)),
+    Slip("the limits of the transformed circuit in the search", search, "need_narrow", narrow_and_fit),
 )
 
 

@@ -1,7 +1,7 @@
 """The search. All patterns of an output are one word: bit m is the value under pattern m."""
 
-from simulator import clocks
-from simulator.faults import NET, Found, Untestable, need_site
+from simulator import clocks, pads
+from simulator.faults import NET, PIN, Found, Untestable, need_site
 from simulator.gates import gate
 from simulator.reading import Refused
 from simulator.structure import prepare
@@ -16,7 +16,10 @@ def variable(k, patterns):
 
 
 class Cone:
-    """The transformed circuit as one output sees it, with its good words under all patterns."""
+    """The transformed circuit as one output sees it, with its good words under all patterns.
+
+    Each branch has its block's word, so pad buffers and their copies are no cells here.
+    """
 
     def __init__(self, chip, z):
         self.chip, self.z = chip, z
@@ -25,7 +28,8 @@ class Cone:
         self.patterns = 1 << len(self.blocks)
         self.ones = (1 << self.patterns) - 1
         field = ((1 << (chip.depth + 1)) - 1) << (z * (chip.depth + 1))
-        self.cells = [j for j in chip.order if chip.net_reach[netlist.inputs + j] & field]
+        self.cells = [j for j in chip.order
+                      if chip.net_reach[netlist.inputs + j] & field and not chip.is_pad_buffer(j)]
         self.pin_words = {}
         for k, b in enumerate(self.blocks):
             word = variable(k, self.patterns)
@@ -40,7 +44,7 @@ class Cone:
         """The word of a pin: as changed, else as its net is changed, else the good one."""
         if p in pins:
             return pins[p]
-        if net < self.chip.netlist.inputs:
+        if p in self.pin_words:
             return self.pin_words[p]
         return nets[net] if net in nets else self.net_words[net]
 
@@ -71,9 +75,15 @@ class Cone:
 def stuck_pins(chip, fault):
     """The pins that have the stuck value: the site itself, or all that name the stuck net.
 
-    A stuck input is so stuck in all its blocks at once.
+    For an input or a pad buffer, on its net or its pin, these are all the branches behind it,
+    so that it is stuck in all its blocks, or in all its copies, at once.
     """
-    return chip.pins_naming(fault.number) if fault.sort == NET else [fault.number]
+    net = fault.number
+    if fault.sort == PIN:
+        if not chip.into_pad_buffer(fault.number):
+            return [fault.number]
+        net = chip.netlist.inputs + chip.cell_of(fault.number)
+    return chip.naming[net] if chip.pad[net] is None else pads.behind(chip, net)
 
 
 def reached(chip, fault):

@@ -4,6 +4,7 @@ from bisect import bisect_right
 from dataclasses import dataclass
 from functools import lru_cache
 
+from simulator import pads
 from simulator.loops import cell_order
 from simulator.reading import DFF, Refused, read
 
@@ -12,7 +13,7 @@ MOST_DEPTH = 255
 
 @dataclass(frozen=True)
 class Block:
-    """A block: its input, its pins, and its reach."""
+    """A block: its input, its branches, and their reach."""
 
     input: int
     pins: tuple
@@ -29,10 +30,13 @@ class Chip:
 
     def __init__(self, netlist):
         self.netlist = netlist
+        self.named = netlist.named()
+        self.naming = naming(netlist)
         self.order = cell_order(netlist)
         self.depth = greatest_depth(netlist, self.order)
         self.first_pin = first_pins(netlist)
         self.net_reach, self.pin_reach = reaches(self)
+        self.pad = pads.pad_of_each_net(netlist, self.order)
         self.blocks = all_blocks(self)
         self.unbalanced = lowest_unbalanced(self)
         self.class_number = class_number(self)
@@ -50,13 +54,16 @@ class Chip:
             reach >>= width
             z += 1
 
-    def pins_naming(self, net):
-        """The pins that name a net."""
-        return [p for p, named in enumerate(self.netlist.named()) if named == net]
-
     def cell_of(self, p):
         """The cell that a pin belongs to; past the last cell for the pins of outputs."""
         return bisect_right(self.first_pin, p) - 1
+
+    def is_pad_buffer(self, j):
+        return self.pad[self.netlist.inputs + j] is not None
+
+    def into_pad_buffer(self, p):
+        """Whether a pin is that of a pad buffer."""
+        return p < self.first_pin[-1] and self.is_pad_buffer(self.cell_of(p))
 
     def need_class(self):
         """Refusal 11."""
@@ -82,6 +89,14 @@ def greatest_depth(netlist, order):
         if depth[net] > MOST_DEPTH:
             raise Refused(10, z)
     return max(depth[net] for net in netlist.outputs)
+
+
+def naming(netlist):
+    """For each net the pins that name it."""
+    pins = [[] for _ in range(netlist.nets)]
+    for p, net in enumerate(netlist.named()):
+        pins[net].append(p)
+    return pins
 
 
 def first_pins(netlist):
@@ -133,12 +148,8 @@ def join(branches, pin_reach):
 
 def all_blocks(chip):
     """The blocks by input, then by lowest pin; an input without branches is one block."""
-    branches = [[] for _ in range(chip.netlist.inputs)]
-    for p, net in enumerate(chip.netlist.named()):
-        if net < chip.netlist.inputs:
-            branches[net].append(p)
     blocks = []
-    for i, pins in enumerate(branches):
+    for i, pins in enumerate(pads.branches(chip)):
         for block in join(pins, chip.pin_reach) or [[]]:
             reach = 0
             for p in block:

@@ -12,7 +12,8 @@ class Volumes:
     checks: int = 10_000  # calls of code 5
     searches: int = 5_000  # calls of code 6
     listings: int = 300  # netlists for the program listing
-    small: int = 2_000  # small netlists on which the two modes are compared
+    small: int = 1_700  # small netlists on which the two modes are compared
     laws: int = 300  # larger netlists on which the laws are tried
     loops: int = 400  # netlists with loops in both modes and in calls, a tenth of them in the listing too
+    pads: int = 250  # small netlists with pad buffers, in both modes with every fault in a buffer, and in calls
     slips: int = 400  # netlists on which each slip may be caught

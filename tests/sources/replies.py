@@ -48,11 +48,21 @@ def refusal_name(book, definition):
     return REFUSAL.search(variants).group(1)
 
 
+def passed_on(book, definition, text):
+    """The definition beside a reply's whose answer a case of the reply passes on."""
+    beside = book.modules[definition.crate, definition.module].definitions
+    return next((other for other in beside if other.is_data and other != definition and f"→ {other.name} " in text), None)
+
+
 def refusals(book, definition):
     """The refusals of a reply's definition, in the order of its cases; the number `n` stands for what opening the file refuses."""
     variant = refusal_name(book, definition)
     found = []
     for name, text in cases(definition):
+        inner = passed_on(book, definition, text)
+        if inner:
+            found.extend(refusals(book, inner))
+            continue
         end = text.rsplit("→", 1)[1]
         at = end.find(f"({variant} ")
         if at >= 0:

@@ -30,7 +30,7 @@ reply file x d low k fault play o P (answered.shows-not F C B s) = shows-not o F
 pub reply-read : (file : List ℕ) (fault : Fault) (play : List ℕ) (r : Tables) (z : Sizes) → Holds file r z → {q : Checked} → Prepares (tablesChip r z) fault play q → CheckReply file fault play q
 reply-read file fault play r z h (answered.looped l) = refuses (opens-looped file r z h _ l)
 reply-read file fault play r z h (answered.deep {y = y} g) = refuses (opens-deep file r z h y g)
-reply-read file fault play r z h (answered.chip {firsts = firsts} {order = order} {block = block} {reached = reached} {s = s} {r = q} S A) =
-    let S′ : Shaped (chipOf (h .x)) firsts order block reached s = chip-shaped file r z h firsts order block reached s S in
-    reply file (h .x) (s .depth) (S′ .low) (s .class) fault play (opens-chip file r z h firsts order block reached s S) (S′ .prepared)
+reply-read file fault play r z h (answered.chip {firsts = firsts} {order = order} {branches = branches} {block = block} {reached = reached} {s = s} {r = q} S A) =
+    let S′ : Shaped (chipOf (h .x)) firsts order branches block reached s = chip-shaped file r z h firsts order branches block reached s S in
+    reply file (h .x) (s .depth) (S′ .low) (s .class) fault play (opens-chip file r z h firsts order branches block reached s S) (S′ .prepared)
     (subst (λ N. Answered N (s .depth) fault play q) (tables-chip file r z h) A)

@@ -130,6 +130,7 @@ fn check_chip(
 {
     let mut firsts = [0u16; 1025];
     let mut order = [0u16; 1024];
+    let mut branches = [0u16; 4096];
     let mut block = [0u16; 4096];
     let mut reached = [0u64; 4160];
     match structure::prepare(
@@ -142,6 +143,7 @@ fn check_chip(
         nets,
         &mut firsts,
         &mut order,
+        &mut branches,
         &mut block,
         &mut reached,
     ) {

@@ -1,11 +1,14 @@
 pub mod Bools
 pub mod Basics
+pub mod Entries
 pub mod LookBack
 pub mod Runs
 pub mod Transformed
 pub mod Decide
 pub mod Loops
+pub mod Pads
 pub mod Blocks
+pub mod Copies
 pub mod Depths
 pub mod Lowest
 pub mod Classes
@@ -20,6 +23,8 @@ pub mod Theorem
 pub mod Search
 pub mod Opened
 pub mod Twice
+pub mod Plain
 pub mod Tables
 pub mod Pins
+pub mod Direct
 pub mod Circuits

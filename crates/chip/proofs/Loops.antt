@@ -144,6 +144,11 @@ module _ (N : Netlist) where
         under = λ n _. longest n (N .cells) .1;
       }
 
+  -- no rank of it passes the number of cells
+  pub ranked-low : (free : LoopFree N) (n : ℕ) → ranked free .rank n ≤ N .cells
+  unfolding ranked
+  ranked-low free n = longest n (N .cells) .1
+
 -- and an order leaves no loop
 pub rising : (N : Netlist) (R : Ranked N) {m n : ℕ} → Feeds N m n → R .rank m < R .rank n
 rising N R (direct {j = j} {p = p} o) = R .below j p o

@@ -146,7 +146,7 @@ module _ (file : List ℕ) (x : Parsed) (S : Sound (chipOf x)) (R : Ranked (chip
       let r = reading-reads (chipOf x) S R (depthOf (chipOf x) S R) (prepared (chipOf x) S R .depth .within) (blocks (chipOf x) (lowOf (chipOf x) S R)) even-blocks z zo play t late in
       record {
         late = late;
-        takes = λ b e s at q. same b (block-low (chipOf x) (depthOf (chipOf x) S R) (prepared (chipOf x) S R .depth .within) (blocks (chipOf x) (lowOf (chipOf x) S R)) even-blocks z at) ∙ r .takes b e s at q;
+        takes = λ b e s at q. same b (block-low (chipOf x) S R (depthOf (chipOf x) S R) (prepared (chipOf x) S R .depth .within) (blocks (chipOf x) (lowOf (chipOf x) S R)) even-blocks z at) ∙ r .takes b e s at q;
         zero-elsewhere = λ b l g. same b l ∙ r .zero-elsewhere b l g;
       }
     where

@@ -1,4 +1,4 @@
--- 'Small circuits with known results': the netlist files of P1 to P10, and beside P9 one in which a lower net hangs from the loop.
+-- 'Small circuits with known results', with W2 and W3 of 02: the netlist files of P1 to P10, beside P8 one with a NOT in place of its pad buffer, and beside P9 one in which a lower net hangs from the loop.
 use Prim.Native.Nat.{ℕ}
 use mathlib.Core.List.{List, [], _∷_}
 
@@ -25,6 +25,14 @@ twoOutputs = 1 ∷ 0 ∷ 1 ∷ 1 ∷ 0 ∷ 8 ∷ 1 ∷ 0 ∷ 0 ∷ 2 ∷ 0 ∷ 2
 -- P8: x to a BUF, the BUF's net to an XOR straight and through a DFF
 abbrev pub buffered : List ℕ
 buffered = 1 ∷ 0 ∷ 1 ∷ 3 ∷ 0 ∷ 0 ∷ 1 ∷ 0 ∷ 0 ∷ 8 ∷ 1 ∷ 1 ∷ 0 ∷ 6 ∷ 2 ∷ 1 ∷ 0 ∷ 2 ∷ 0 ∷ 1 ∷ 0 ∷ 2 ∷ 3 ∷ 0 ∷ []
+
+-- P8 transformed: the second block has a copy of the BUF
+abbrev pub bufferedTransformed : List ℕ
+bufferedTransformed = 2 ∷ 0 ∷ 1 ∷ 2 ∷ 4 ∷ 0 ∷ 0 ∷ 1 ∷ 0 ∷ 0 ∷ 0 ∷ 1 ∷ 2 ∷ 0 ∷ 6 ∷ 2 ∷ 5 ∷ 0 ∷ 3 ∷ 0 ∷ 0 ∷ 1 ∷ 1 ∷ 0 ∷ 1 ∷ 0 ∷ 3 ∷ 4 ∷ 0 ∷ []
+
+-- P8 with a NOT where it has the BUF
+abbrev pub inverted : List ℕ
+inverted = 1 ∷ 0 ∷ 1 ∷ 3 ∷ 0 ∷ 1 ∷ 1 ∷ 0 ∷ 0 ∷ 8 ∷ 1 ∷ 1 ∷ 0 ∷ 6 ∷ 2 ∷ 1 ∷ 0 ∷ 2 ∷ 0 ∷ 1 ∷ 0 ∷ 2 ∷ 3 ∷ 0 ∷ []
 
 -- P9: a DFF that feeds itself
 abbrev pub selfFed : List ℕ

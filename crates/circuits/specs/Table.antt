@@ -4,7 +4,7 @@ use mathlib.Core.Path.{_≡_}
 use mathlib.Core.List.{List, [], _∷_, _++_}
 use lib.ListN.{length, drop}
 use Rattle.chip.specs.Faults.{FaultIn}
-use Rattle.chip.specs.declared.Site.the-variants.{Net}
+use Rattle.chip.specs.declared.Site.the-variants.{Net, Pin}
 use Rattle.chip.specs.declared.Fault.{Fault}
 use Rattle.fields.specs.Got.{refused, got}
 use Rattle.fields.specs.Format.{Parsed, readOf}
@@ -20,7 +20,7 @@ use Rattle.checking.specs.Reply.{CheckReply}
 use Rattle.checking.specs.declared.Checked.the-variants.{NotShown}
 use Rattle.search.specs.Reply.{SearchReply}
 use Rattle.search.specs.declared.Searched.the-variants as Searched
-use Rattle.circuits.specs.Circuits.{listing, listingTransformed, straight, neverOne, twoOutputs, buffered, selfFed, hanging, empty}
+use Rattle.circuits.specs.Circuits.{listing, listingTransformed, straight, neverOne, twoOutputs, buffered, bufferedTransformed, inverted, selfFed, hanging, empty}
 
 pub record SmallCircuits : Type 0 where
   -- class 2, depth 1, two blocks
@@ -39,9 +39,14 @@ pub record SmallCircuits : Type 0 where
   pub p6-search : (entry : List ℕ) → 1 ≤ length entry → SearchReply neverOne (record { site = Net 2; stuck = 0 }) entry (Searched.Untestable 2) entry
   -- class 3, two blocks
   pub p7 : ClassReply twoOutputs (Class 3 1 2)
-  -- class 1; the search is refused by 11 at 0
-  pub p8 : ClassReply buffered (Class 1 1 1)
-  pub p8-search : (fault : Fault) (x : Parsed) → readOf buffered ≡ got x → FaultIn (chipOf x) fault → (entry : List ℕ) → SearchReply buffered fault entry (Searched.Refused 11 0) entry
+  -- class 2, depth 1, two blocks, of which the second has a copy of the BUF; the BUF's net stuck at 0 and its pin stuck at 1 are shown by play 1, 0, tries 2
+  pub p8 : ClassReply buffered (Class 2 1 2)
+  pub p8-transformed : (entry : List ℕ) → 29 ≤ length entry → TransformReply buffered entry (Written 29) (bufferedTransformed ++ drop 29 entry)
+  pub p8-net : (entry : List ℕ) → 2 ≤ length entry → SearchReply buffered (record { site = Net 1; stuck = 0 }) entry (Searched.Found 0 1 2) (1 ∷ 0 ∷ drop 2 entry)
+  pub p8-pin : (entry : List ℕ) → 2 ≤ length entry → SearchReply buffered (record { site = Pin 0; stuck = 1 }) entry (Searched.Found 0 1 2) (1 ∷ 0 ∷ drop 2 entry)
+  -- with a NOT in place of the BUF class 1; the search is refused by 11 at 0
+  pub p8-inverted : ClassReply inverted (Class 1 1 1)
+  pub p8-refused : (fault : Fault) (x : Parsed) → readOf inverted ≡ got x → FaultIn (chipOf x) fault → (entry : List ℕ) → SearchReply inverted fault entry (Searched.Refused 11 0) entry
   -- 9 at the DFF's net, which every call gives; and so where a lower net hangs from such a loop
   pub p9 : Opens selfFed (refused 9 1)
   pub p9-hanging : Opens hanging (refused 9 2)

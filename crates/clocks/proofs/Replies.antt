@@ -20,10 +20,10 @@ use Rattle.clocks.specs.declared.Setting.the-variants.{Set, Unset}
 use Rattle.clocks.specs.declared.Reading.the-variants.{Read, Unread}
 
 -- the netlist N of the tables is that of the file
-module _ {N : Netlist} {firsts order block reached : List ℕ} {s : Shape} (S₀ : Shaped N firsts order block reached s)
+module _ {N : Netlist} {firsts order branches block reached : List ℕ} {s : Shape} (S₀ : Shaped N firsts order branches block reached s)
     (file : List ℕ) (x : Parsed) (opens : Opens file (got x)) (q : N ≡ chipOf x) (output : ℕ) where
-  S : Shaped (chipOf x) firsts order block reached s
-  S = subst (λ M. Shaped M firsts order block reached s) q S₀
+  S : Shaped (chipOf x) firsts order branches block reached s
+  S = subst (λ M. Shaped M firsts order branches block reached s) q S₀
 
   there : output < N .outs → output < chipOf x .outs
   there l = subst (λ M. output < M .outs) q l

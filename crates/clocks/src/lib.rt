@@ -41,13 +41,14 @@ fn set_chip(
     firsts: &[u16; 1025],
     nets: &[u16; 4096],
     order: &[u16; 1024],
+    branches: &[u16; 4096],
     block: &[u16; 4096],
     pattern: &[u8],
     play: &mut [u8],
 ) -> Setting
     requires { ⌜ InLimits (tabled i c o (now kinds) (now counts) (now nets)) ⌝ }
     requires { ⌜ n ≡ allPins (tabled i c o (now kinds) (now counts) (now nets)) ⌝ }
-    requires { ⌜ ((reached : List ℕ) × Shaped (tabled i c o (now kinds) (now counts) (now nets)) (now firsts) (now order) (now block) reached s) ⌝ }
+    requires { ⌜ ((reached : List ℕ) × Shaped (tabled i c o (now kinds) (now counts) (now nets)) (now firsts) (now order) (now branches) (now block) reached s) ⌝ }
     ensures { λ r. ⌜ ((file : List ℕ) (x : Parsed) → Opens file (got x) → tabled i c o (now (kinds .entry)) (now (counts .entry)) (now (nets .entry)) ≡ chipOf x
         → SetReply file z (now (pattern .entry)) (now (play .entry)) r (now (play .exit))) ⌝ }
 {
@@ -80,6 +81,7 @@ fn set_chip(
         firsts,
         nets,
         order,
+        branches,
         block,
         pattern,
         play,
@@ -101,13 +103,14 @@ fn read_chip(
     firsts: &[u16; 1025],
     nets: &[u16; 4096],
     order: &[u16; 1024],
+    branches: &[u16; 4096],
     block: &[u16; 4096],
     play: &[u8],
     pattern: &mut [u8],
 ) -> Reading
     requires { ⌜ InLimits (tabled i c o (now kinds) (now counts) (now nets)) ⌝ }
     requires { ⌜ n ≡ allPins (tabled i c o (now kinds) (now counts) (now nets)) ⌝ }
-    requires { ⌜ ((reached : List ℕ) × Shaped (tabled i c o (now kinds) (now counts) (now nets)) (now firsts) (now order) (now block) reached s) ⌝ }
+    requires { ⌜ ((reached : List ℕ) × Shaped (tabled i c o (now kinds) (now counts) (now nets)) (now firsts) (now order) (now branches) (now block) reached s) ⌝ }
     ensures { λ r. ⌜ ((file : List ℕ) (x : Parsed) → Opens file (got x) → tabled i c o (now (kinds .entry)) (now (counts .entry)) (now (nets .entry)) ≡ chipOf x
         → ReadReply file z (now (play .entry)) t (now (pattern .entry)) r (now (pattern .exit))) ⌝ }
 {
@@ -145,6 +148,7 @@ fn read_chip(
         firsts,
         nets,
         order,
+        branches,
         block,
         play,
         pattern,
@@ -162,6 +166,7 @@ fn set_tables(a: Tables, z: Sizes, output: usize, pattern: &[u8], play: &mut [u8
     let nets = a.nets;
     let mut firsts = [0u16; 1025];
     let mut order = [0u16; 1024];
+    let mut branches = [0u16; 4096];
     let mut block = [0u16; 4096];
     let mut reached = [0u64; 4160];
     match structure::prepare(
@@ -174,6 +179,7 @@ fn set_tables(a: Tables, z: Sizes, output: usize, pattern: &[u8], play: &mut [u8
         &nets,
         &mut firsts,
         &mut order,
+        &mut branches,
         &mut block,
         &mut reached,
     ) {
@@ -191,6 +197,7 @@ fn set_tables(a: Tables, z: Sizes, output: usize, pattern: &[u8], play: &mut [u8
             &firsts,
             &nets,
             &order,
+            &branches,
             &block,
             pattern,
             play,
@@ -215,6 +222,7 @@ fn read_tables(
     let nets = a.nets;
     let mut firsts = [0u16; 1025];
     let mut order = [0u16; 1024];
+    let mut branches = [0u16; 4096];
     let mut block = [0u16; 4096];
     let mut reached = [0u64; 4160];
     match structure::prepare(
@@ -227,6 +235,7 @@ fn read_tables(
         &nets,
         &mut firsts,
         &mut order,
+        &mut branches,
         &mut block,
         &mut reached,
     ) {
@@ -245,6 +254,7 @@ fn read_tables(
             &firsts,
             &nets,
             &order,
+            &branches,
             &block,
             play,
             pattern,

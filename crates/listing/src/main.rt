@@ -109,6 +109,7 @@ fn list(
     firsts: &[u16; 1025],
     nets: &[u16; 4096],
     order: &[u16; 1024],
+    branches: &[u16; 4096],
     block: &[u16; 4096],
     reached: &[u64; 4160],
     cone: &[u64; 4096],
@@ -116,7 +117,7 @@ fn list(
     line: &mut [u8; 65536],
     used: &mut usize,
 )
-    requires { ⌜ Ready (tabled i c o (now kinds) (now counts) (now nets)) n s (now firsts) (now order) (now block) (now reached) (now cone) ⌝ }
+    requires { ⌜ Ready (tabled i c o (now kinds) (now counts) (now nets)) n s (now firsts) (now order) (now branches) (now block) (now reached) (now cone) ⌝ }
 {
     sizes(i, c, o, s, line, used);
     for k in 0..2 * (i + c + n) {
@@ -134,6 +135,7 @@ fn list(
             firsts,
             nets,
             order,
+            branches,
             block,
             reached,
             cone,
@@ -165,6 +167,7 @@ fn list_file(file: &[u8], play: &mut [u8], line: &mut [u8; 65536], used: &mut us
     let nets = t.nets;
     let mut firsts = [0u16; 1025];
     let mut order = [0u16; 1024];
+    let mut branches = [0u16; 4096];
     let mut block = [0u16; 4096];
     let mut reached = [0u64; 4160];
     let s = match structure::prepare(
@@ -177,6 +180,7 @@ fn list_file(file: &[u8], play: &mut [u8], line: &mut [u8; 65536], used: &mut us
         &nets,
         &mut firsts,
         &mut order,
+        &mut branches,
         &mut block,
         &mut reached,
     ) {
@@ -217,6 +221,7 @@ fn list_file(file: &[u8], play: &mut [u8], line: &mut [u8; 65536], used: &mut us
         &firsts,
         &nets,
         &order,
+        &branches,
         &block,
         &reached,
         &cone,

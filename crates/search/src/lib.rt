@@ -41,12 +41,13 @@ fn search_narrow(
     firsts: &[u16; 1025],
     nets: &[u16; 4096],
     order: &[u16; 1024],
+    branches: &[u16; 4096],
     block: &[u16; 4096],
     reached: &[u64; 4160],
     cone: &[u64; 4096],
     play: &mut [u8],
 ) -> Searched
-    requires { ⌜ Ready (tabled i c o (now kinds) (now counts) (now nets)) n s (now firsts) (now order) (now block) (now reached) (now cone) ⌝ }
+    requires { ⌜ Ready (tabled i c o (now kinds) (now counts) (now nets)) n s (now firsts) (now order) (now branches) (now block) (now reached) (now cone) ⌝ }
     requires { ⌜ Walkable (tabled i c o (now kinds) (now counts) (now nets)) s fault outs (now reached) ⌝ }
     requires { ⌜ FaultIn (tabled i c o (now kinds) (now counts) (now nets)) fault × (suc (s .depth) * i ≤ length (now play)) ⌝ }
     ensures { λ r. ⌜ ((file : List ℕ) (x : Parsed) → Opens file (got x) → tabled i c o (now (kinds .entry)) (now (counts .entry)) (now (nets .entry)) ≡ chipOf x
@@ -65,6 +66,7 @@ fn search_narrow(
         firsts,
         nets,
         order,
+        branches,
         block,
         reached,
         cone,
@@ -84,6 +86,7 @@ fn search_narrow(
                 firsts,
                 nets,
                 order,
+                branches,
                 block,
                 reached,
                 play,
@@ -106,12 +109,13 @@ fn search_even(
     firsts: &[u16; 1025],
     nets: &[u16; 4096],
     order: &[u16; 1024],
+    branches: &[u16; 4096],
     block: &[u16; 4096],
     reached: &[u64; 4160],
     cone: &[u64; 4096],
     play: &mut [u8],
 ) -> Searched
-    requires { ⌜ Ready (tabled i c o (now kinds) (now counts) (now nets)) n s (now firsts) (now order) (now block) (now reached) (now cone) ⌝ }
+    requires { ⌜ Ready (tabled i c o (now kinds) (now counts) (now nets)) n s (now firsts) (now order) (now branches) (now block) (now reached) (now cone) ⌝ }
     requires { ⌜ (s .class ≢ 1) × FaultIn (tabled i c o (now kinds) (now counts) (now nets)) fault ⌝ }
     ensures { λ r. ⌜ ((file : List ℕ) (x : Parsed) → Opens file (got x) → tabled i c o (now (kinds .entry)) (now (counts .entry)) (now (nets .entry)) ≡ chipOf x
         → SearchReply file fault (now (play .entry)) r (now (play .exit))) ⌝ }
@@ -139,6 +143,7 @@ fn search_even(
         firsts,
         nets,
         order,
+        branches,
         block,
         reached,
         cone,
@@ -159,12 +164,13 @@ pub fn search_chip(
     firsts: &[u16; 1025],
     nets: &[u16; 4096],
     order: &[u16; 1024],
+    branches: &[u16; 4096],
     block: &[u16; 4096],
     reached: &[u64; 4160],
     cone: &[u64; 4096],
     play: &mut [u8],
 ) -> Searched
-    requires { ⌜ Ready (tabled i c o (now kinds) (now counts) (now nets)) n s (now firsts) (now order) (now block) (now reached) (now cone) ⌝ }
+    requires { ⌜ Ready (tabled i c o (now kinds) (now counts) (now nets)) n s (now firsts) (now order) (now branches) (now block) (now reached) (now cone) ⌝ }
     ensures { λ r. ⌜ ((file : List ℕ) (x : Parsed) → Opens file (got x) → tabled i c o (now (kinds .entry)) (now (counts .entry)) (now (nets .entry)) ≡ chipOf x
         → SearchReply file fault (now (play .entry)) r (now (play .exit))) ⌝ }
 {
@@ -186,6 +192,7 @@ pub fn search_chip(
         firsts,
         nets,
         order,
+        branches,
         block,
         reached,
         cone,
@@ -203,6 +210,7 @@ fn search_tables(t: Tables, z: Sizes, fault: Fault, play: &mut [u8]) -> Searched
     let nets = t.nets;
     let mut firsts = [0u16; 1025];
     let mut order = [0u16; 1024];
+    let mut branches = [0u16; 4096];
     let mut block = [0u16; 4096];
     let mut reached = [0u64; 4160];
     let s = match structure::prepare(
@@ -215,6 +223,7 @@ fn search_tables(t: Tables, z: Sizes, fault: Fault, play: &mut [u8]) -> Searched
         &nets,
         &mut firsts,
         &mut order,
+        &mut branches,
         &mut block,
         &mut reached,
     ) {
@@ -250,6 +259,7 @@ fn search_tables(t: Tables, z: Sizes, fault: Fault, play: &mut [u8]) -> Searched
         &firsts,
         &nets,
         &order,
+        &branches,
         &block,
         &reached,
         &cone,

@@ -29,15 +29,15 @@ abbrev pub tablesChip : Tables → Sizes → Netlist
 tablesChip r z = tabled (z .inputs) (z .cells) (z .outputs) (r .kinds) (r .counts) (r .nets)
 
 -- what was found of a netlist, once the answer is known
-module _ (N : Netlist) (firsts order block reached : List ℕ) (a : Found) (f : FoundIs N firsts order block reached a) where
+module _ (N : Netlist) (firsts order branches block reached : List ℕ) (a : Found) (f : FoundIs N firsts order branches block reached a) where
   pub found-looped : (n : ℕ) → a ≡ Looped n → LowestLoop N n
-  found-looped n e = subst (FoundIs N firsts order block reached) e f
+  found-looped n e = subst (FoundIs N firsts order branches block reached) e f
 
   pub found-deep : (y : ℕ) → a ≡ TooDeep y → LoopFree N × LowestDeep N y
-  found-deep y e = subst (FoundIs N firsts order block reached) e f
+  found-deep y e = subst (FoundIs N firsts order branches block reached) e f
 
-  pub found-chip : (s : Shape) → a ≡ Chip s → Shaped N firsts order block reached s
-  found-chip s e = subst (FoundIs N firsts order block reached) e f
+  pub found-chip : (s : Shape) → a ≡ Chip s → Shaped N firsts order branches block reached s
+  found-chip s e = subst (FoundIs N firsts order branches block reached) e f
 
 -- a file that is refused by reading
 pub opens-unread : (file : List ℕ) (r : Tables) (k p : ℕ) → r ≡ tablesOf (readOf file) → r .reading ≡ R.Refused k p → Opens file (refused k p)
@@ -91,16 +91,16 @@ module _ (file : List ℕ) (r : Tables) (z : Sizes) (h : Holds file r z) where
       deep (h .read) (e .0) (e .1 .deep) (e .1 .none-below)
 
   -- a chip that is prepared is opened, and its depth, blocks and class are those of the file's netlist
-  pub opens-chip : (firsts order block reached : List ℕ) (s : Shape) → Shaped (tablesChip r z) firsts order block reached s → Opens file (got (h .x))
-  opens-chip firsts order block reached s S =
-      let S′ : Shaped (chipOf (h .x)) firsts order block reached s = subst (λ N. Shaped N firsts order block reached s) tables-chip S in
+  pub opens-chip : (firsts order branches block reached : List ℕ) (s : Shape) → Shaped (tablesChip r z) firsts order branches block reached s → Opens file (got (h .x))
+  opens-chip firsts order branches block reached s S =
+      let S′ : Shaped (chipOf (h .x)) firsts order branches block reached s = subst (λ N. Shaped N firsts order branches block reached s) tables-chip S in
       opens-prepared (h .read) (S′ .prepared) (S′ .shallow)
 
-  pub chip-shaped : (firsts order block reached : List ℕ) (s : Shape) → Shaped (tablesChip r z) firsts order block reached s → Shaped (chipOf (h .x)) firsts order block reached s
-  chip-shaped firsts order block reached s S = subst (λ N. Shaped N firsts order block reached s) tables-chip S
+  pub chip-shaped : (firsts order branches block reached : List ℕ) (s : Shape) → Shaped (tablesChip r z) firsts order branches block reached s → Shaped (chipOf (h .x)) firsts order branches block reached s
+  chip-shaped firsts order branches block reached s S = subst (λ N. Shaped N firsts order branches block reached s) tables-chip S
 
   -- what naming the class replies for it
-  pub reply-chip : (firsts order block reached : List ℕ) (s : Shape) → Shaped (tablesChip r z) firsts order block reached s → ClassReply file (Class (s .class) (s .depth) (s .blocks))
-  reply-chip firsts order block reached s S =
-      let S′ : Shaped (chipOf (h .x)) firsts order block reached s = chip-shaped firsts order block reached s S in
-      rw (S′ .count) (answers (opens-chip firsts order block reached s S) (S′ .prepared))
+  pub reply-chip : (firsts order branches block reached : List ℕ) (s : Shape) → Shaped (tablesChip r z) firsts order branches block reached s → ClassReply file (Class (s .class) (s .depth) (s .blocks))
+  reply-chip firsts order branches block reached s S =
+      let S′ : Shaped (chipOf (h .x)) firsts order branches block reached s = chip-shaped firsts order branches block reached s S in
+      rw (S′ .count) (answers (opens-chip firsts order branches block reached s S) (S′ .prepared))

@@ -4,16 +4,16 @@ use mathlib.Core.Path.{_≡_, subst}
 use mathlib.Core.List.{List}
 use native.Mathlib.Omega.{arith}
 use native.Mathlib.Decide.{decLt}
-use lib.ListN.{getD}
 use Rattle.chip.specs.Netlist.{Netlist, InLimits}
-use Rattle.chip.specs.Inner.Tables.{FirstPins}
+use Rattle.chip.specs.Inner.Tables.{FirstPins, BranchTable}
 use Rattle.chip.specs.Class.{Lowest, blocks}
-use Rattle.chip.proofs.Blocks.{counted}
+use Rattle.chip.proofs.Blocks.{in-block}
 use Rattle.order.specs.Order.{Ordered}
 use Rattle.order.specs.Settled.{LoopFrom, Settled}
 use Rattle.order.specs.declared.Ordering.{Ordering}
 use Rattle.order.specs.declared.Ordering.the-variants.{Done, Loop}
-use Rattle.order.proofs.Order.{order-free}
+use Rattle.order.proofs.Order.{order-free, ranked-of}
+use Rattle.chip.proofs.Plain.{within-branches}
 use Rattle.blocks.specs.Labels.{Numbered}
 use Rattle.blocks.proofs.Numbers.{counted-few}
 use Rattle.balance.specs.Balance.{FewLabels}
@@ -36,34 +36,32 @@ depth-over N low r z s e = subst (DepthIs N low) e s
 pub depth-of : (N : Netlist) (low : ℕ → ℕ) (r : Depths) (d : ℕ) → DepthIs N low r → r ≡ Is d → DepthFound N low d
 depth-of N low r d s e = subst (DepthIs N low) e s
 
--- labels are few: an input's number, or a block's
-pub nets-few : (N : Netlist) (nets : List ℕ) → InLimits N → ((p : ℕ) → getD nets p 0 ≡ N .net p) → FewLabels N nets
-nets-few N nets L same x p b = omega (arith, same p, b .names, b .input, L .few-inputs)
-
+-- labels are few
 module _ (N : Netlist) (L : InLimits N) (low : ℕ → ℕ) (K : Lowest N low) (table : List ℕ) (count : ℕ) (n : Numbered N low table count) where
   pub count-few : blocks N low .count ≤ 4160
   unfolding blocks
   count-few = omega (arith, counted-few N low (N .inputs) table count (record { count-is = n .count-is; block-is = λ y p _ b. n .block-is y p b }), n .count-is, L .few-inputs, L .few-pins)
 
   pub blocks-few : FewLabels N table
-  blocks-few x p b = omega (arith, n .block-is x p b, counted N low K p (b .pin) (rw (b .names) (b .input)), count-few)
+  blocks-few x p b = omega (arith, n .block-is x p b, in-block N low K p (b .pin) (rw (b .names) (b .input)), count-few)
 
   pub blocks-one : OneInput N table
   blocks-one = blocks-own N low K table (n .block-is)
 
-  pub shaped : (nets : List ℕ) → ((p : ℕ) → getD nets p 0 ≡ N .net p) → (firsts order seen reached : List ℕ) (d x y k : ℕ) → FirstPins N firsts → Ordered N order → DepthFound N low d
+  pub shaped : (nets : List ℕ) → BranchTable N nets → (firsts order seen reached : List ℕ) (d x y k : ℕ) → FirstPins N firsts → Ordered N order → DepthFound N low d
       → Evened N nets d seen x → Evened N table d reached y → Classified (N .inputs) y x k
-      → Shaped N firsts order table reached (record { depth = d; class = k; blocks = count; place = y })
+      → Shaped N firsts order nets table reached (record { depth = d; class = k; blocks = count; place = y })
   shaped nets same firsts order seen reached d x y k F O D u v c =
       record {
         low = low;
         first-pins = F;
         ordered = O;
+        branch-table = same;
         prepared = record { loop-free = order-free O; depth = D .depth; lowest = K; classed = class-is N low K nets table same (n .block-is) y x k (v .lowest) (u .lowest) c };
         shallow = D .shallow;
         count = n .count-is;
         block-table = n .block-is;
-        reach-table = λ b h. reach-mask N d (D .depth .within) low K table (n .block-is) reached (v .seen-all) b (omega (arith, count-few, n .count-is));
+        reach-table = λ b h. reach-mask N d (within-branches N (L .sound) (ranked-of O) d .0 (D .depth .within)) low K table (n .block-is) reached (v .seen-all) b (omega (arith, count-few, n .count-is));
         place = λ e. place-11 N low K table (n .block-is) y (v .lowest) (uneven-of e);
       }
     where

@@ -3,7 +3,7 @@ ghost use mathlib.Core.Path.{_≡_};
 ghost use Prim.Native.Nat.{ℕ, _+_, _≤_, _<_};
 ghost use lib.ListN.{getD};
 ghost use Rattle.chip.specs.Netlist.{allPins, InLimits};
-ghost use Rattle.chip.specs.Inner.Tables.{tabled, FirstPins};
+ghost use Rattle.chip.specs.Inner.Tables.{tabled, FirstPins, BranchTable};
 ghost use Rattle.chip.specs.Class.{Within};
 ghost use Rattle.order.specs.Order.{Ordered};
 ghost use Rattle.levels.specs.Levels.{MasksBefore};
@@ -52,6 +52,7 @@ fn deeper(
     counts: &[u8; 1024],
     firsts: &[u16; 1025],
     nets: &[u16; 4096],
+    branches: &[u16; 4096],
     order: &[u16; 1024],
     before: &[u64; 1088],
     after: &mut [u64; 1088],
@@ -63,6 +64,7 @@ fn deeper(
     requires { ⌜ Ordered (tabled i c o (now kinds) (now counts) (now nets)) (now order) ⌝ }
     requires { ⌜ MasksBefore (tabled i c o (now kinds) (now counts) (now nets)) e (now before) ⌝ }
     requires { ⌜ Labels (tabled i c o (now kinds) (now counts) (now nets)) (labelOf (tabled i c o (now kinds) (now counts) (now nets)) (now low)) ⌝ }
+    requires { ⌜ BranchTable (tabled i c o (now kinds) (now counts) (now nets)) (now branches) ⌝ }
     ensures { λ r. ⌜ Deeper (tabled i c o (now (kinds .entry)) (now (counts .entry)) (now (nets .entry))) e (now (after .exit))
         (labelOf (tabled i c o (now (kinds .entry)) (now (counts .entry)) (now (nets .entry))) (now (low .entry)))
         (labelOf (tabled i c o (now (kinds .entry)) (now (counts .entry)) (now (nets .entry))) (now (low .exit))) r ⌝ }
@@ -82,7 +84,7 @@ fn deeper(
         &mut pins,
         after,
     );
-    blocks::join_level(i, c, o, n, e, kinds, counts, nets, &pins, low);
+    blocks::join_level(i, c, o, n, e, kinds, counts, nets, branches, &pins, low);
     levels::any_net(i + c, after)
 }
 
@@ -96,6 +98,7 @@ fn join_blocks(
     counts: &[u8; 1024],
     firsts: &[u16; 1025],
     nets: &[u16; 4096],
+    branches: &[u16; 4096],
     order: &[u16; 1024],
     low: &mut [u16; 4096],
 ) -> Depths
@@ -103,6 +106,7 @@ fn join_blocks(
     requires { ⌜ n ≡ allPins (tabled i c o (now kinds) (now counts) (now nets)) ⌝ }
     requires { ⌜ FirstPins (tabled i c o (now kinds) (now counts) (now nets)) (now firsts) ⌝ }
     requires { ⌜ Ordered (tabled i c o (now kinds) (now counts) (now nets)) (now order) ⌝ }
+    requires { ⌜ BranchTable (tabled i c o (now kinds) (now counts) (now nets)) (now branches) ⌝ }
     ensures { λ r. ⌜ DepthIs (tabled i c o (now (kinds .entry)) (now (counts .entry)) (now (nets .entry)))
         (labelOf (tabled i c o (now (kinds .entry)) (now (counts .entry)) (now (nets .entry))) (now (low .exit))) r ⌝ }
 {
@@ -121,6 +125,7 @@ fn join_blocks(
             counts,
             firsts,
             nets,
+            branches,
             order,
             &before,
             &mut after,
@@ -142,6 +147,7 @@ fn join_blocks(
         counts,
         firsts,
         nets,
+        branches,
         order,
         &before,
         &mut after,
@@ -165,6 +171,7 @@ fn lowest_uneven(
     counts: &[u8; 1024],
     firsts: &[u16; 1025],
     nets: &[u16; 4096],
+    branches: &[u16; 4096],
     order: &[u16; 1024],
     labels: &[u16; 4096],
     seen: &mut [u64; 4160],
@@ -177,6 +184,7 @@ fn lowest_uneven(
     requires { ⌜ FewLabels (tabled i c o (now kinds) (now counts) (now nets)) (now labels) ⌝ }
     requires { ⌜ OneInput (tabled i c o (now kinds) (now counts) (now nets)) (now labels) ⌝ }
     requires { ⌜ ((l : ℕ) → l < 4160 → getD (now seen) l 0 ≡ 0) ⌝ }
+    requires { ⌜ BranchTable (tabled i c o (now kinds) (now counts) (now nets)) (now branches) ⌝ }
     ensures { λ r. ⌜ Evened (tabled i c o (now (kinds .entry)) (now (counts .entry)) (now (nets .entry))) (now (labels .entry)) d (now (seen .exit)) r ⌝ }
 {
     let mut before = [0u64; 1088];
@@ -208,12 +216,26 @@ fn lowest_uneven(
             kinds,
             counts,
             nets,
+            branches,
             &pins,
             labels,
             seen,
             lowest,
         );
-        balance::see(i, c, o, n, e, kinds, counts, nets, &pins, labels, seen);
+        balance::see(
+            i,
+            c,
+            o,
+            n,
+            e,
+            kinds,
+            counts,
+            nets,
+            branches,
+            &pins,
+            labels,
+            seen,
+        );
         before = after;
         e += 1;
     }
@@ -244,13 +266,14 @@ pub fn prepare(
     nets: &[u16; 4096],
     firsts: &mut [u16; 1025],
     order: &mut [u16; 1024],
+    branches: &mut [u16; 4096],
     block: &mut [u16; 4096],
     reached: &mut [u64; 4160],
 ) -> Found
     requires { ⌜ InLimits (tabled i c o (now kinds) (now counts) (now nets)) ⌝ }
     requires { ⌜ n ≡ allPins (tabled i c o (now kinds) (now counts) (now nets)) ⌝ }
     requires { ⌜ ((l : ℕ) → l < 4160 → getD (now reached) l 0 ≡ 0) ⌝ }
-    ensures { λ r. ⌜ FoundIs (tabled i c o (now (kinds .entry)) (now (counts .entry)) (now (nets .entry))) (now (firsts .exit)) (now (order .exit)) (now (block .exit)) (now (reached .exit)) r ⌝ }
+    ensures { λ r. ⌜ FoundIs (tabled i c o (now (kinds .entry)) (now (counts .entry)) (now (nets .entry))) (now (firsts .exit)) (now (order .exit)) (now (branches .exit)) (now (block .exit)) (now (reached .exit)) r ⌝ }
 {
     let mut low = [0u16; 4096];
     order::first_pins(counts, c, firsts);
@@ -260,13 +283,26 @@ pub fn prepare(
         }
         Ordering::Done => {}
     }
-    let d = match join_blocks(i, c, o, n, kinds, counts, firsts, nets, order, &mut low) {
+    pads::branches(i, c, o, n, kinds, counts, firsts, nets, order, branches);
+    let d = match join_blocks(
+        i,
+        c,
+        o,
+        n,
+        kinds,
+        counts,
+        firsts,
+        nets,
+        branches,
+        order,
+        &mut low,
+    ) {
         Depths::Over(z) => {
             return Found::TooDeep(z);
         }
         Depths::Is(d) => d,
     };
-    let b = blocks::number_blocks(i, c, o, n, kinds, counts, nets, &low, block);
+    let b = blocks::number_blocks(i, c, o, n, kinds, counts, nets, branches, &low, block);
     let mut seen = [0u64; 4160];
     let x = lowest_uneven(
         i,
@@ -278,8 +314,9 @@ pub fn prepare(
         counts,
         firsts,
         nets,
+        branches,
         order,
-        nets,
+        branches,
         &mut seen,
     );
     let y = lowest_uneven(
@@ -292,6 +329,7 @@ pub fn prepare(
         counts,
         firsts,
         nets,
+        branches,
         order,
         block,
         reached,
@@ -321,6 +359,7 @@ pub fn class_of(file: &[u8]) -> Classed
     let nets = t.nets;
     let mut firsts = [0u16; 1025];
     let mut order = [0u16; 1024];
+    let mut branches = [0u16; 4096];
     let mut block = [0u16; 4096];
     let mut reached = [0u64; 4160];
     match prepare(
@@ -333,6 +372,7 @@ pub fn class_of(file: &[u8]) -> Classed
         &nets,
         &mut firsts,
         &mut order,
+        &mut branches,
         &mut block,
         &mut reached,
     ) {

@@ -4,8 +4,9 @@ use mathlib.Core.Path.{_≡_, refl, sym, ap, _∙_, subst}
 use mathlib.Core.Logic.{_≢_}
 use mathlib.Core.List.{List, _++_}
 use native.Mathlib.Omega.{arith}
-use lib.ListN.{length, getD, take, drop}
+use lib.ListN.{length, take, drop}
 use Rattle.chip.specs.Netlist.{Netlist, InLimits, allPins}
+use Rattle.chip.specs.Pads.{branchOf}
 use Rattle.chip.specs.Inner.Tables.{tabled}
 use Rattle.chip.specs.Class.{blocks, Lowest}
 use Rattle.chip.proofs.Basics.{reach-in, Ranked}
@@ -22,15 +23,16 @@ use Rattle.sweeps.specs.Copied.{marked, Places, Copied, ClockSet}
 use Rattle.sweeps.specs.Swept.{Even, PlaySet, PatternRead}
 use Rattle.sweeps.proofs.Sweeping.{Marks, marks, Tabled, depth-copied, places, SetTo, set-more, set-done, ReadTo, read-more, read-done}
 
-module _ {N : Netlist} {n : ℕ} {firsts order block reached : List ℕ} {s : Shape} (limits : InLimits N) (pins : n ≡ allPins N) (S : Shaped N firsts order block reached s) where
+module _ {N : Netlist} {n : ℕ} {firsts order branches block reached : List ℕ} {s : Shape} (limits : InLimits N) (pins : n ≡ allPins N) (S : Shaped N firsts order branches block reached s) where
   -- the chip's tables are such as a sweep asks for
-  pub shaped-even : s .class ≢ 1 → Even N n (s .depth) (s .blocks) firsts order block
+  pub shaped-even : s .class ≢ 1 → Even N n (s .depth) (s .blocks) firsts order branches block
   shaped-even g =
       record {
         limits = limits;
         pins = pins;
         first-pins = S .first-pins;
         ordered = S .ordered;
+        branch-table = S .branch-table;
         low = S .low;
         class = s .class;
         prepared = S .prepared;
@@ -41,7 +43,7 @@ module _ {N : Netlist} {n : ℕ} {firsts order block reached : List ℕ} {s : Sh
       }
 
 -- what the tables are by the blocks' lowest pins, of which there is one choice
-module _ {N : Netlist} {n d b : ℕ} {firsts order block : List ℕ} (E : Even N n d b firsts order block) (low : ℕ → ℕ) (L : Lowest N low) where
+module _ {N : Netlist} {n d b : ℕ} {firsts order branches block : List ℕ} (E : Even N n d b firsts order branches block) (low : ℕ → ℕ) (L : Lowest N low) where
   same-low : E .low ≡ low
   same-low = one-low N (E .low) low (E .prepared .lowest) L
 
@@ -49,51 +51,51 @@ module _ {N : Netlist} {n d b : ℕ} {firsts order block : List ℕ} (E : Even N
   even-balanced = subst (λ w. Balanced N (blocks N w)) same-low (balanced-of N d (E .low) (E .class) (E .prepared) (E .even))
 
   pub even-table : Tabled N block (blocks N low .block)
-  even-table p h i = subst (λ w. BlockTable N w block) same-low (E .block-table) (N .net p) p (record { pin = h; names = refl; input = i })
+  even-table p h i = subst (λ w. BlockTable N w block) same-low (E .block-table) (branchOf N p) p (record { pin = h; names = refl; input = i })
 
   pub even-count : b ≡ blocks N low .count
   even-count = subst (λ w. b ≡ blocks N w .count) same-low (E .count)
 
-module _ (i c o : ℕ) (kinds counts nets : List ℕ) (n d b : ℕ) (firsts order block : List ℕ) (E : Even (tabled i c o kinds counts nets) n d b firsts order block) (z : ℕ) (zo : z < o) where
+module _ (i c o : ℕ) (kinds counts nets : List ℕ) (n d b : ℕ) (firsts order branches block : List ℕ) (E : Even (tabled i c o kinds counts nets) n d b firsts order branches block) (z : ℕ) (zo : z < o) where
   -- one depth
   module _ (e : ℕ) (words : List ℕ) (M : PinMasks (tabled i c o kinds counts nets) e words) (low : ℕ → ℕ) (L : Lowest (tabled i c o kinds counts nets) low) where
-    marks-here : Marks (tabled i c o kinds counts nets) z e (marked i z nets words)
-    marks-here = marks i c o kinds counts nets words z e zo M
+    marks-here : Marks (tabled i c o kinds counts nets) z e (marked i z branches words)
+    marks-here = marks i c o kinds counts nets branches words z e zo M (E .branch-table)
 
-    named : Tabled (tabled i c o kinds counts nets) nets (λ p. getD nets p 0)
-    named p _ _ = refl
+    named : Tabled (tabled i c o kinds counts nets) branches (branchOf (tabled i c o kinds counts nets))
+    named p h _ = E .branch-table p h
 
     bal : Balanced (tabled i c o kinds counts nets) (blocks (tabled i c o kinds counts nets) low)
     bal = even-balanced E low L
 
-    pub set-places : (pattern part : List ℕ) → length pattern ≡ b → i ≤ length part → Places n (marked i z nets words) block nets pattern part
+    pub set-places : (pattern part : List ℕ) → length pattern ≡ b → i ≤ length part → Places n (marked i z branches words) block branches pattern part
     set-places pattern part l h =
-        places _ z e _ marks-here n (E .pins) block nets _ _ pattern part (even-table E low L) named
-        (λ p x r. (omega (arith, bal .counted p (reach-in _ z r) x, even-count E low L), omega arith))
+        places _ z e _ marks-here n (E .pins) block branches _ _ pattern part (even-table E low L) named
+        (λ p x r. (omega (arith, bal .counted .in-block p (reach-in _ z r) x, even-count E low L), omega arith))
         (λ p q x y r s w. bal .apart z p q e x w r s)
 
     pub set-step : (pattern entry play part : List ℕ) → e ≤ d → suc d * i ≤ length play
-        → ClockSet i n (marked i z nets words) nets block pattern (take (length play - (d - e) * i) (drop ((d - e) * i) play)) part
+        → ClockSet i n (marked i z branches words) branches block pattern (take (length play - (d - e) * i) (drop ((d - e) * i) play)) part
         → SetTo (tabled i c o kinds counts nets) (blocks (tabled i c o kinds counts nets) low) d z e pattern entry play
         → SetTo (tabled i c o kinds counts nets) (blocks (tabled i c o kinds counts nets) low) d z (e + 1) pattern entry
         (take ((d - e) * i) play ++ (part ++ drop (length play - (d - e) * i) (drop ((d - e) * i) play)))
     set-step pattern entry play part h room C S =
         set-more _ _ d z pattern entry e play (C .cleared) part h room (C .clears)
-        (depth-copied _ z e _ marks-here n (E .pins) block nets _ _ pattern (C .cleared) part (even-table E low L) named (C .copies)) S
+        (depth-copied _ z e _ marks-here n (E .pins) block branches _ _ pattern (C .cleared) part (even-table E low L) named (C .copies)) S
 
-    pub read-places : (part pattern : List ℕ) → i ≤ length part → b ≤ length pattern → Places n (marked i z nets words) nets block part pattern
+    pub read-places : (part pattern : List ℕ) → i ≤ length part → b ≤ length pattern → Places n (marked i z branches words) branches block part pattern
     read-places part pattern h l =
-        places _ z e _ marks-here n (E .pins) nets block _ _ part pattern named (even-table E low L)
-        (λ p x r. (omega arith, omega (arith, bal .counted p (reach-in _ z r) x, even-count E low L)))
-        (λ p q x y r s w. sym (bal .own p (reach-in _ z r) x) ∙ ap (blocks (tabled i c o kinds counts nets) low .input) w ∙ bal .own q (reach-in _ z s) y)
+        places _ z e _ marks-here n (E .pins) branches block _ _ part pattern named (even-table E low L)
+        (λ p x r. (omega arith, omega (arith, bal .counted .in-block p (reach-in _ z r) x, even-count E low L)))
+        (λ p q x y r s w. sym (bal .counted .own p (reach-in _ z r) x) ∙ ap (blocks (tabled i c o kinds counts nets) low .input) w ∙ bal .counted .own q (reach-in _ z s) y)
 
     pub read-step : (t : ℕ) (play entry pattern pattern′ : List ℕ)
-        → Copied n (marked i z nets words) nets block (take (length play - (t - e) * i) (drop ((t - e) * i) play)) pattern pattern′
+        → Copied n (marked i z branches words) branches block (take (length play - (t - e) * i) (drop ((t - e) * i) play)) pattern pattern′
         → ReadTo (tabled i c o kinds counts nets) (blocks (tabled i c o kinds counts nets) low) z t e play entry pattern
         → ReadTo (tabled i c o kinds counts nets) (blocks (tabled i c o kinds counts nets) low) z t (e + 1) play entry pattern′
     read-step t play entry pattern pattern′ C R =
         read-more _ _ z t play entry bal e pattern pattern′
-        (depth-copied _ z e _ marks-here n (E .pins) nets block _ _ _ pattern pattern′ named (even-table E low L) C) R
+        (depth-copied _ z e _ marks-here n (E .pins) branches block _ _ _ pattern pattern′ named (even-table E low L) C) R
 
   -- all depths
   module _ (low : ℕ → ℕ) (L : Lowest (tabled i c o kinds counts nets) low) where

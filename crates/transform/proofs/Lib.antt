@@ -1,8 +1,7 @@
-pub mod Seams
-pub mod Lengths
-pub mod RoundTrip
 pub mod Alike
 pub mod Again
 pub mod Unique
-pub mod Puts
-pub mod Tables
+pub mod NewTables
+pub mod New
+pub mod Filled
+pub mod Answers

@@ -1,22 +1,24 @@
-// Writes the transformed circuit: each block is an input, each DFF a BUF, each DFFN a NOT.
+// Writes the transformed circuit: each block is an input with pad buffers of its own, each DFF a BUF, each DFFN a NOT.
 ghost use mathlib.Core.Path.{_≡_};
-ghost use mathlib.Core.List.{List, _∷_, _++_};
+ghost use mathlib.Core.Logic.{_⊎_};
+ghost use mathlib.Core.Bool.{cond};
+ghost use mathlib.Core.List.{List};
 ghost use Prim.Native.Nat.{ℕ, _+_, _*_, _≤_, _<_};
+ghost use lib.Dec.{ltb};
 ghost use lib.ListN.{length, getD};
-ghost use Rattle.chip.specs.Netlist.{sumBelow, allPins, InLimits};
-ghost use Rattle.chip.specs.Inner.Tables.{tabled};
-ghost use Rattle.chip.specs.Class.{blocks};
-ghost use Rattle.chip.specs.Transformed.{openedNet, flat};
-ghost use Rattle.blocks.specs.Labels.{BlockTable};
+ghost use Rattle.chip.specs.Netlist.{Netlist, outPin, allPins, InLimits};
+ghost use Rattle.chip.specs.Inner.Tables.{tabled, FirstPins, BranchTable};
+ghost use Rattle.chip.specs.Class.{LoopFree, Lowest, blocks};
+ghost use Rattle.chip.specs.Transformed.{netFor, home, flat};
+ghost use Rattle.blocks.specs.Labels.{Numbered};
 ghost use Rattle.structure.specs.Refusals.{Wrote};
-ghost use Rattle.transform.specs.File.{word, inputsFile, pinsFile, cellsFile, outputsFile, transformedFile};
-ghost use Rattle.transform.specs.Reply.{TransformReply};
-ghost use Rattle.transform.specs.Inner.Put.{Put, tabledBlocks, newChip, LowNets, OpenedAs};
+ghost use Rattle.transform.specs.File.{transformedFile};
+ghost use Rattle.transform.specs.Reply.{CircuitReply, TransformReply};
+ghost use Rattle.transform.specs.Inner.New.{Copied, Room, NewCells, moved, OldNets, CopyNets};
 ghost use Rattle.netlist.specs.Inner.Holds.{Holds};
 ghost use Rattle.netlist.specs.declared.Reading.{Reading};
 use chip::flat_kind;
 use chip::wide;
-use chip::wide8;
 use netlist::Sizes;
 use structure::Found;
 
@@ -26,183 +28,323 @@ pub enum Transformed {
     Refused(u8, usize),
 }
 
-// A number of two bytes, low byte first.
-fn put_word(out: &mut [u8], at: usize, x: u16) -> usize
-    requires { ⌜ at + 2 ≤ length (now out) ⌝ }
-    ensures { λ r. ⌜ Put (word x) at (now (out .entry)) (now (out .exit)) r ⌝ }
+// The kind and the pin count of cell j of the transformed circuit: those of an old cell without its flip-flop, or a BUF's.
+fn new_kind(c: usize, kinds: &[u8; 1024], j: usize) -> u8
+    requires { ⌜ c ≤ 1024 ⌝ }
+    ensures { λ r. ⌜ r ≡ cond (ltb j c) (flat (getD (now (kinds .entry)) j 0)) 0 ⌝ }
 {
-    out[at] = (x % 256) as u8;
-    out[at + 1] = (x / 256) as u8;
-    at + 2
-}
-
-// The inputs, one for each block: block k has pad k + 1.
-fn put_inputs(out: &mut [u8], b: usize) -> usize
-    requires { ⌜ (2 + b ≤ length (now out)) × (b ≤ 64) ⌝ }
-    ensures { λ r. ⌜ Put (word b ++ inputsFile (λ k. k + 1) b) 0 (now (out .entry)) (now (out .exit)) r ⌝ }
-{
-    let mut at = put_word(out, 0, b as u16);
-    for k in 0..b {
-        out[at] = (k + 1) as u8;
-        at += 1;
+    if j < c {
+        return flat_kind(kinds[j]);
     }
-    at
+    0
 }
 
-// The net that pin p names once each block is an input: its block, or the net of the cell that drives it.
-fn new_net(i: usize, nets: &[u16; 4096], b: usize, block: &[u16; 4096], p: usize) -> u16
-    requires { ⌜ (p < 4096) × (b ≤ 64) × LowNets i (now nets) ⌝ }
-    ensures { λ r. ⌜ ((c o : ℕ) (kinds counts : List ℕ) → r ≡ openedNet (tabled i c o kinds counts (now (nets .entry))) (tabledBlocks b (now (block .entry))) p) ⌝ }
+fn new_count(c: usize, counts: &[u8; 1024], j: usize) -> u8
+    requires { ⌜ c ≤ 1024 ⌝ }
+    ensures { λ r. ⌜ r ≡ cond (ltb j c) (getD (now (counts .entry)) j 0) 1 ⌝ }
 {
-    let x = wide(nets[p]);
-    if x < i {
-        return block[p];
+    if j < c {
+        return counts[j];
     }
-    (b + (x - i)) as u16
+    1
 }
 
-// The nets of n pins, from pin `from` on.
-fn put_pins(
+// The cells of the transformed circuit: the c old ones, and then the copies, in all k.
+fn new_cells(
+    c: usize,
+    k: usize,
+    kinds: &[u8; 1024],
+    counts: &[u8; 1024],
+    flats: &mut [u8],
+    sizes: &mut [u8],
+)
+    requires { ⌜ (c ≤ 1024) × (k ≤ 1024) × (length (now flats) ≡ 1024) × (length (now sizes) ≡ 1024) ⌝ }
+    ensures { λ _. ⌜ NewCells c k (now (kinds .entry)) (now (counts .entry)) (now (flats .exit)) (now (sizes .exit)) ⌝ }
+{
+    let mut j = 0;
+    while j < k {
+        flats[j] = new_kind(c, kinds, j);
+        sizes[j] = new_count(c, counts, j);
+        j += 1;
+    }
+}
+
+// The net that stands for a net in block k: for an input the block itself, for a cell of which the block has a copy that copy, for another cell the cell.
+fn net_for(i: usize, c: usize, b: usize, marks: &[u8], numbers: &[u16], k: usize, net: usize) -> u16
+    requires { ⌜ Room i c b (now marks) (now numbers) ⌝ }
+    requires { ⌜ (k < b) × (net < i + c) ⌝ }
+    ensures { λ r. ⌜ ((N : Netlist) (low : ℕ → ℕ) (branches block lowest : List ℕ) (m : ℕ) → N .inputs ≡ i → N .cells ≡ c
+        → Copied N low b branches block lowest (now (marks .entry)) (now (numbers .entry)) m → r ≡ netFor N (blocks N low) k net) ⌝ }
+{
+    if net < i {
+        return k as u16;
+    }
+    let j = net - i;
+    let place = 1024 * k + j;
+    if marks[place] == 1 {
+        return (b + c + wide(numbers[place])) as u16;
+    }
+    (b + j) as u16
+}
+
+// The net that pin p of the netlist names in the transformed circuit: what stands for it in a branch's block, and in the lowest block of the input for a pin into a pad buffer.
+fn new_net(
     i: usize,
-    nets: &[u16; 4096],
+    c: usize,
     b: usize,
-    block: &[u16; 4096],
-    from: usize,
-    n: usize,
-    out: &mut [u8],
-    start: usize,
-) -> usize
-    requires { ⌜ (from + n ≤ 4096) × (b ≤ 64) × LowNets i (now nets) × (start + 2 * n ≤ length (now out)) ⌝ }
-    ensures { λ r. ⌜ ((c o : ℕ) (kinds counts : List ℕ) → Put (pinsFile (newChip i c o kinds counts (now (nets .entry)) b (now (block .entry))) from n) start (now (out .entry)) (now (out .exit)) r) ⌝ }
-{
-    let mut at = start;
-    for k in 0..n {
-        at = put_word(out, at, new_net(i, nets, b, block, from + k));
-    }
-    at
-}
-
-// A cell: its kind, its pin count m, and its pins, of which p is the first.
-fn put_cell(
-    i: usize,
     nets: &[u16; 4096],
-    b: usize,
+    branches: &[u16; 4096],
     block: &[u16; 4096],
-    kind: u8,
-    m: u8,
+    lowest: &[u16; 64],
+    marks: &[u8],
+    numbers: &[u16],
     p: usize,
-    out: &mut [u8],
-    at: usize,
-) -> usize
-    requires { ⌜ (p + m ≤ 4096) × (b ≤ 64) × LowNets i (now nets) × (at + 2 + 2 * m ≤ length (now out)) ⌝ }
-    ensures { λ r. ⌜ ((c o : ℕ) (kinds counts : List ℕ) → Put (flat kind ∷ m ∷ pinsFile (newChip i c o kinds counts (now (nets .entry)) b (now (block .entry))) p m) at (now (out .entry)) (now (out .exit)) r) ⌝ }
+) -> u16
+    requires { ⌜ Room i c b (now marks) (now numbers) ⌝ }
+    requires { ⌜ (p < 4096) × (getD (now nets) p 0 < i + c) × (getD (now branches) p 0 < i → getD (now block) p 0 < b) ⌝ }
+    ensures { λ r. ⌜ ((o : ℕ) (kinds counts : List ℕ) (low : ℕ → ℕ) (m : ℕ) → p < allPins (tabled i c o kinds counts (now (nets .entry)))
+        → Copied (tabled i c o kinds counts (now (nets .entry))) low b (now (branches .entry)) (now (block .entry)) (now (lowest .entry)) (now (marks .entry)) (now (numbers .entry)) m
+        → r ≡ netFor (tabled i c o kinds counts (now (nets .entry))) (blocks (tabled i c o kinds counts (now (nets .entry))) low)
+        (home (tabled i c o kinds counts (now (nets .entry))) (blocks (tabled i c o kinds counts (now (nets .entry))) low) p) (getD (now (nets .entry)) p 0)) ⌝ }
 {
-    out[at] = flat_kind(kind);
-    out[at + 1] = m;
-    put_pins(i, nets, b, block, p, wide8(m), out, at + 2)
-}
-
-// The cells.
-fn put_cells(
-    i: usize,
-    c: usize,
-    kinds: &[u8; 1024],
-    counts: &[u8; 1024],
-    nets: &[u16; 4096],
-    b: usize,
-    block: &[u16; 4096],
-    out: &mut [u8],
-    start: usize,
-) -> usize
-    requires { ⌜ (c ≤ 1024) × (b ≤ 64) × LowNets i (now nets) × (sumBelow (λ j. getD (now counts) j 0) c ≤ 4096) ⌝ }
-    requires { ⌜ start + 2 + 2 * c + 2 * sumBelow (λ j. getD (now counts) j 0) c ≤ length (now out) ⌝ }
-    ensures { λ r. ⌜ ((o : ℕ) → Put (word c ++ cellsFile (newChip i c o (now (kinds .entry)) (now (counts .entry)) (now (nets .entry)) b (now (block .entry))) c) start (now (out .entry)) (now (out .exit)) r) ⌝ }
-{
-    let mut at = put_word(out, start, c as u16);
-    let mut p = 0;
-    for j in 0..c {
-        let m = counts[j];
-        at = put_cell(i, nets, b, block, kinds[j], m, p, out, at);
-        p += wide8(m);
+    let net = wide(nets[p]);
+    if wide(branches[p]) < i {
+        return net_for(i, c, b, marks, numbers, wide(block[p]), net);
     }
-    at
-}
-
-// The outputs, of which `first` is the first pin: output z has pad b + 1 + z.
-fn put_outputs(
-    i: usize,
-    o: usize,
-    nets: &[u16; 4096],
-    b: usize,
-    block: &[u16; 4096],
-    first: usize,
-    out: &mut [u8],
-    start: usize,
-) -> usize
-    requires { ⌜ (first + o ≤ 4096) × (o ≤ 64) × (b ≤ 64) × LowNets i (now nets) ⌝ }
-    requires { ⌜ start + 2 + 3 * o ≤ length (now out) ⌝ }
-    ensures { λ r. ⌜ ((c : ℕ) (kinds counts : List ℕ) → first ≡ sumBelow (λ j. getD counts j 0) c → Put (word o ++ outputsFile (newChip i c o kinds counts (now (nets .entry)) b (now (block .entry))) (λ z. b + 1 + z) o) start (now (out .entry)) (now (out .exit)) r) ⌝ }
-{
-    let mut at = put_word(out, start, o as u16);
-    for z in 0..o {
-        out[at] = (b + 1 + z) as u8;
-        at = put_word(out, at + 1, new_net(i, nets, b, block, first + z));
+    if net < i {
+        return lowest[net];
     }
-    at
+    (b + (net - i)) as u16
 }
 
-// Writes the file.
-fn put_file(
+// Where pin p of the netlist stands in the transformed circuit: output pins, from pin `first` on, come after those of m copies.
+fn new_pin(first: usize, m: usize, p: usize) -> usize
+    requires { ⌜ p + m ≤ 4096 ⌝ }
+    ensures { λ r. ⌜ r ≡ moved first m p ⌝ }
+{
+    if p < first {
+        return p;
+    }
+    p + m
+}
+
+// The nets of the netlist's n pins: those of the cells at their old places, those of the outputs, from pin `first` on, after the pins of m copies.
+fn old_nets(
     i: usize,
     c: usize,
     o: usize,
     n: usize,
+    b: usize,
+    m: usize,
+    first: usize,
     kinds: &[u8; 1024],
     counts: &[u8; 1024],
     nets: &[u16; 4096],
-    b: usize,
+    branches: &[u16; 4096],
     block: &[u16; 4096],
+    lowest: &[u16; 64],
+    marks: &[u8],
+    numbers: &[u16],
+    table: &mut [u16],
+)
+    requires { ⌜ (n ≡ allPins (tabled i c o (now kinds) (now counts) (now nets))) × (first ≡ outPin (tabled i c o (now kinds) (now counts) (now nets)) 0) ⌝ }
+    requires { ⌜ ((low : ℕ → ℕ) × Copied (tabled i c o (now kinds) (now counts) (now nets)) low b (now branches) (now block) (now lowest) (now marks) (now numbers) m) ⌝ }
+    requires { ⌜ length (now table) ≡ 4096 ⌝ }
+    ensures { λ _. ⌜ length (now (table .exit)) ≡ 4096 ⌝ }
+    ensures { λ _. ⌜ ((low : ℕ → ℕ) → Copied (tabled i c o (now (kinds .entry)) (now (counts .entry)) (now (nets .entry))) low b (now (branches .entry)) (now (block .entry)) (now (lowest .entry)) (now (marks .entry)) (now (numbers .entry)) m
+        → OldNets (tabled i c o (now (kinds .entry)) (now (counts .entry)) (now (nets .entry))) (blocks (tabled i c o (now (kinds .entry)) (now (counts .entry)) (now (nets .entry))) low) m n (now (table .exit))) ⌝ }
+{
+    let mut p = 0;
+    while p < n {
+        let at = new_pin(first, m, p);
+        table[at] = new_net(i, c, b, nets, branches, block, lowest, marks, numbers, p);
+        p += 1;
+    }
+}
+
+// The nets of the copies' pins, from pin `first` on: what stands in a copy's block for the net that feeds its cell.
+fn copy_nets(
+    i: usize,
+    c: usize,
+    o: usize,
+    b: usize,
+    m: usize,
+    first: usize,
+    kinds: &[u8; 1024],
+    counts: &[u8; 1024],
+    firsts: &[u16; 1025],
+    nets: &[u16; 4096],
+    branches: &[u16; 4096],
+    block: &[u16; 4096],
+    lowest: &[u16; 64],
+    marks: &[u8],
+    numbers: &[u16],
+    table: &mut [u16],
+)
+    requires { ⌜ FirstPins (tabled i c o (now kinds) (now counts) (now nets)) (now firsts) ⌝ }
+    requires { ⌜ first ≡ outPin (tabled i c o (now kinds) (now counts) (now nets)) 0 ⌝ }
+    requires { ⌜ ((low : ℕ → ℕ) × Copied (tabled i c o (now kinds) (now counts) (now nets)) low b (now branches) (now block) (now lowest) (now marks) (now numbers) m) ⌝ }
+    requires { ⌜ length (now table) ≡ 4096 ⌝ }
+    ensures { λ _. ⌜ ((low : ℕ → ℕ) → Copied (tabled i c o (now (kinds .entry)) (now (counts .entry)) (now (nets .entry))) low b (now (branches .entry)) (now (block .entry)) (now (lowest .entry)) (now (marks .entry)) (now (numbers .entry)) m
+        → CopyNets (tabled i c o (now (kinds .entry)) (now (counts .entry)) (now (nets .entry))) (blocks (tabled i c o (now (kinds .entry)) (now (counts .entry)) (now (nets .entry))) low) (1024 * b) (now (table .exit))) ⌝ }
+    ensures { λ _. ⌜ ((p : ℕ) → (p < first) ⊎ (first + m ≤ p) → getD (now (table .exit)) p 0 ≡ getD (now (table .entry)) p 0) ⌝ }
+{
+    let mut l = 0;
+    while l < 1024 * b {
+        if marks[l] == 1 {
+            let p = wide(firsts[l % 1024]);
+            let net = net_for(i, c, b, marks, numbers, l / 1024, wide(nets[p]));
+            table[first + wide(numbers[l])] = net;
+        }
+        l += 1;
+    }
+}
+
+// Writes the file of the transformed circuit with its m copies, for which there is room.
+fn put_tables(
+    i: usize,
+    c: usize,
+    o: usize,
+    n: usize,
+    b: usize,
+    m: usize,
+    kinds: &[u8; 1024],
+    counts: &[u8; 1024],
+    firsts: &[u16; 1025],
+    nets: &[u16; 4096],
+    branches: &[u16; 4096],
+    block: &[u16; 4096],
+    lowest: &[u16; 64],
+    marks: &[u8],
+    numbers: &[u16],
     out: &mut [u8],
 )
-    requires { ⌜ InLimits (tabled i c o (now kinds) (now counts) (now nets)) ⌝ }
+    requires { ⌜ FirstPins (tabled i c o (now kinds) (now counts) (now nets)) (now firsts) ⌝ }
     requires { ⌜ n ≡ allPins (tabled i c o (now kinds) (now counts) (now nets)) ⌝ }
-    requires { ⌜ (b ≤ 64) × LowNets i (now nets) × (6 + b + 2 * c + 2 * n + o ≤ length (now out)) ⌝ }
-    ensures { λ _. ⌜ ((low : ℕ → ℕ) → BlockTable (tabled i c o (now (kinds .entry)) (now (counts .entry)) (now (nets .entry))) low (now (block .entry))
-        → b ≡ blocks (tabled i c o (now (kinds .entry)) (now (counts .entry)) (now (nets .entry))) low .count
+    requires { ⌜ ((low : ℕ → ℕ) × Copied (tabled i c o (now kinds) (now counts) (now nets)) low b (now branches) (now block) (now lowest) (now marks) (now numbers) m) ⌝ }
+    requires { ⌜ 6 + b + 2 * (c + m) + 2 * (n + m) + o ≤ length (now out) ⌝ }
+    ensures { λ _. ⌜ ((low : ℕ → ℕ) → Copied (tabled i c o (now (kinds .entry)) (now (counts .entry)) (now (nets .entry))) low b (now (branches .entry)) (now (block .entry)) (now (lowest .entry)) (now (marks .entry)) (now (numbers .entry)) m
         → Wrote (transformedFile (tabled i c o (now (kinds .entry)) (now (counts .entry)) (now (nets .entry))) (blocks (tabled i c o (now (kinds .entry)) (now (counts .entry)) (now (nets .entry))) low)) (now (out .entry)) (now (out .exit))) ⌝ }
 {
-    let cells = put_inputs(out, b);
-    let outputs = put_cells(i, c, kinds, counts, nets, b, block, out, cells);
-    put_outputs(i, o, nets, b, block, n - o, out, outputs);
+    let mut flats = [0u8; 1024];
+    let mut sizes = [0u8; 1024];
+    new_cells(c, c + m, kinds, counts, &mut flats, &mut sizes);
+    let first = n - o;
+    let mut table = [0u16; 4096];
+    old_nets(
+        i,
+        c,
+        o,
+        n,
+        b,
+        m,
+        first,
+        kinds,
+        counts,
+        nets,
+        branches,
+        block,
+        lowest,
+        marks,
+        numbers,
+        &mut table,
+    );
+    copy_nets(
+        i,
+        c,
+        o,
+        b,
+        m,
+        first,
+        kinds,
+        counts,
+        firsts,
+        nets,
+        branches,
+        block,
+        lowest,
+        marks,
+        numbers,
+        &mut table,
+    );
+    writing::put_file(b, c + m, o, n + m, &flats, &sizes, &table, out);
 }
 
-// 17 and 15, or the file is written.
+// 17, 2, 7 and 15, or the file is written.
 fn put_chip(
     i: usize,
     c: usize,
     o: usize,
     n: usize,
+    b: usize,
     kinds: &[u8; 1024],
     counts: &[u8; 1024],
+    firsts: &[u16; 1025],
     nets: &[u16; 4096],
-    b: usize,
+    branches: &[u16; 4096],
     block: &[u16; 4096],
     out: &mut [u8],
 ) -> Transformed
     requires { ⌜ InLimits (tabled i c o (now kinds) (now counts) (now nets)) ⌝ }
+    requires { ⌜ LoopFree (tabled i c o (now kinds) (now counts) (now nets)) ⌝ }
+    requires { ⌜ FirstPins (tabled i c o (now kinds) (now counts) (now nets)) (now firsts) ⌝ }
+    requires { ⌜ BranchTable (tabled i c o (now kinds) (now counts) (now nets)) (now branches) ⌝ }
     requires { ⌜ n ≡ allPins (tabled i c o (now kinds) (now counts) (now nets)) ⌝ }
-    requires { ⌜ LowNets i (now nets) ⌝ }
-    ensures { λ r. ⌜ ((file : List ℕ) → OpenedAs file (tabled i c o (now (kinds .entry)) (now (counts .entry)) (now (nets .entry))) b (now (block .entry))
-        → TransformReply file (now (out .entry)) r (now (out .exit))) ⌝ }
+    requires { ⌜ ((low : ℕ → ℕ) × Lowest (tabled i c o (now kinds) (now counts) (now nets)) low × Numbered (tabled i c o (now kinds) (now counts) (now nets)) low (now block) b) ⌝ }
+    ensures { λ r. ⌜ ((low : ℕ → ℕ) → Lowest (tabled i c o (now (kinds .entry)) (now (counts .entry)) (now (nets .entry))) low
+        → Numbered (tabled i c o (now (kinds .entry)) (now (counts .entry)) (now (nets .entry))) low (now (block .entry)) b
+        → CircuitReply (tabled i c o (now (kinds .entry)) (now (counts .entry)) (now (nets .entry))) (blocks (tabled i c o (now (kinds .entry)) (now (counts .entry)) (now (nets .entry))) low) (now (out .entry)) r (now (out .exit))) ⌝ }
 {
     if 64 < b {
         return Transformed::Refused(17, b);
     }
-    let length = 6 + b + 2 * c + 2 * n + o;
+    let mut lowest = [0u16; 64];
+    let mut marks = [0u8; 65536];
+    let mut numbers = [0u16; 65536];
+    let m = copies::find_copies(
+        i,
+        c,
+        o,
+        n,
+        b,
+        kinds,
+        counts,
+        firsts,
+        nets,
+        branches,
+        block,
+        &mut lowest,
+        &mut marks,
+        &mut numbers,
+    );
+    if 1024 < c + m {
+        return Transformed::Refused(2, 0);
+    }
+    if 4096 < n + m {
+        return Transformed::Refused(7, 0);
+    }
+    let length = 6 + b + 2 * (c + m) + 2 * (n + m) + o;
     if out.len() < length {
         return Transformed::Refused(15, length);
     }
-    put_file(i, c, o, n, kinds, counts, nets, b, block, out);
+    put_tables(
+        i,
+        c,
+        o,
+        n,
+        b,
+        m,
+        kinds,
+        counts,
+        firsts,
+        nets,
+        branches,
+        block,
+        &lowest,
+        &marks,
+        &numbers,
+        out,
+    );
     Transformed::Written(length)
 }
 
@@ -216,7 +358,6 @@ fn transform_tables(
 ) -> Transformed
     requires { ⌜ InLimits (tabled (z .inputs) (z .cells) (z .outputs) (now kinds) (now counts) (now nets)) ⌝ }
     requires { ⌜ z .pins ≡ allPins (tabled (z .inputs) (z .cells) (z .outputs) (now kinds) (now counts) (now nets)) ⌝ }
-    requires { ⌜ LowNets (z .inputs) (now nets) ⌝ }
     ensures { λ r. ⌜ ((file : List ℕ) (reading : Reading) (pads : List ℕ)
         → Holds file (record { reading = reading; pads = pads; kinds = now (kinds .entry); counts = now (counts .entry); nets = now (nets .entry) }) z
         → TransformReply file (now (out .entry)) r (now (out .exit))) ⌝ }
@@ -227,6 +368,7 @@ fn transform_tables(
     let n = z.pins;
     let mut firsts = [0u16; 1025];
     let mut order = [0u16; 1024];
+    let mut branches = [0u16; 4096];
     let mut block = [0u16; 4096];
     let mut reached = [0u64; 4160];
     match structure::prepare(
@@ -239,6 +381,7 @@ fn transform_tables(
         nets,
         &mut firsts,
         &mut order,
+        &mut branches,
         &mut block,
         &mut reached,
     ) {
@@ -246,13 +389,26 @@ fn transform_tables(
         Found::TooDeep(y) => Transformed::Refused(10, y),
         Found::Chip(s) => {
             let b = s.blocks;
-            put_chip(i, c, o, n, kinds, counts, nets, b, &block, out)
+            put_chip(
+                i,
+                c,
+                o,
+                n,
+                b,
+                kinds,
+                counts,
+                &firsts,
+                nets,
+                &branches,
+                &block,
+                out,
+            )
         }
     }
 }
 
 // Transforms a netlist file: the file of its transformed circuit is written to the front of a lent buffer.
-// Refusals, in this order: 1 to 8 of reading, 9, 10, 17, 15. The buffer then stays as it was.
+// Refusals, in this order: 1 to 8 of reading, 9, 10, 17, 2 and 7 of the transformed circuit, 15. The buffer then stays as it was.
 pub fn transform(file: &[u8], out: &mut [u8]) -> Transformed
     ensures { λ r. ⌜ TransformReply (now (file .entry)) (now (out .entry)) r (now (out .exit)) ⌝ }
 {

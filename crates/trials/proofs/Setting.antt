@@ -1,25 +1,26 @@
 -- What the tables that are made for a trial have: the circuits can be run on them, and their lanes tell which patterns show the fault.
 use Prim.Native.Nat.{ℕ, _+_, _-_, _≤_, _<_}
-use mathlib.Core.Path.{_≡_, sym, ap, _∙_}
-use mathlib.Core.Bool.{Bool, true, false, cond}
+use mathlib.Core.Path.{_≡_, ap, _∙_}
+use mathlib.Core.Bool.{cond}
 use mathlib.Core.List.{List}
 use native.Mathlib.Omega.{arith}
+use native.Mathlib.Decide.{decLt}
 use borrow.Author.Tests.{lt-ltb, le-ltb}
 use lib.ListN.{length, getD}
-use lib.Dec.{eqb}
+use lib.Dec.{ltb}
 use Rattle.chip.specs.Netlist.{Netlist, InLimits, PinOf, firstPin, outPin, allPins}
-use Rattle.chip.specs.Inner.Tables.{tabled, FirstPins}
+use Rattle.chip.specs.Pads.{branchOf}
+use Rattle.chip.specs.Inner.Tables.{tabled, FirstPins, BranchTable}
 use Rattle.chip.specs.Class.{blocks, tally}
-use Rattle.chip.specs.Faults.{stuck}
-use Rattle.chip.specs.Search.{digit, width}
-use Rattle.chip.specs.declared.Fault.{Fault}
+use Rattle.chip.specs.Faults.{Lines}
+use Rattle.chip.specs.Search.{width}
 use Rattle.chip.proofs.Basics.{pin-in, first-pin}
 use Rattle.chip.proofs.Blocks.{branch, counted}
 use Rattle.order.specs.Order.{Ordered}
 use Rattle.words.specs.Lanes.{wired, Ready}
-use Rattle.faults.specs.Sources.{hits, Sources}
 use Rattle.trials.specs.Trials.{relOf, ReachMasks}
-use Rattle.trials.specs.Chunks.{Laid, variable, Variables, slotOf, PinSlots, inCone, Picked, Runnable, Lanes}
+use Rattle.faults.specs.Decided.{Decided}
+use Rattle.trials.specs.Chunks.{Laid, variable, Variables, PinSlots, faultSlot, FaultSlots, inCone, Picked, Runnable, Lanes}
 use Rattle.chip.proofs.Blocks.{tally-most}
 use Rattle.trials.proofs.Bench.{Bench, cell-few, good-few}
 use Rattle.trials.proofs.Lanes.{lanes}
@@ -34,52 +35,53 @@ module _ (N : Netlist) (L : InLimits N) (firsts order : List ℕ) (F : FirstPins
       omega (arith, F j (omega (arith, O .cell t l)), pin-in N j (firstPin N j) (first-pin N (L .sound) j (O .cell t l)), L .few-pins)
 
 module _ (N : Netlist) (L : InLimits N) (b : ℕ) (block : List ℕ) (low : ℕ → ℕ) (D : Laid N b block low) where
-  block-is : (p : ℕ) → p < allPins N → N .net p < N .inputs → getD block p 0 ≡ blocks N low .block p
-  block-is p h i = D .table (N .net p) p (branch N low (D .lowest) p h i)
+  block-is : (p : ℕ) → p < allPins N → branchOf N p < N .inputs → getD block p 0 ≡ blocks N low .block p
+  block-is p h i = D .table (branchOf N p) p (branch N low (D .lowest) p h i)
 
   -- each pin's net is known, and each branch's block
-  pub pin-known : b ≤ 4160 → (p : ℕ) → p < allPins N → (N .net p ≤ N .inputs + 1025) × (N .net p < N .inputs → getD block p 0 < 4160)
-  pin-known few p h = (
+  pub pin-known : b ≤ 4160 → (p x : ℕ) → p < allPins N → x ≡ branchOf N p → (N .net p ≤ N .inputs + 1024) × (x < N .inputs → getD block p 0 < 4160)
+  pin-known few p x h e = (
     omega (arith, L .sound .named p h, L .few-cells),
-    λ i. omega (arith, block-is p h i, counted N low (D .lowest) p h i, D .count-is),
+    λ i.
+        let i′ : branchOf N p < N .inputs = omega arith in
+        omega (arith, block-is p h i′, counted N low (D .lowest) .in-block p h i′, D .count-is),
   )
 
-  -- also where a fault decides what the pin sees
-  pub pin-decided : b ≤ 4160 → (r : Bool) (p x : ℕ) → p < allPins N → x ≡ cond r (N .inputs + 1025) (N .net p) → (x ≤ N .inputs + 1025) × (x < N .inputs → getD block p 0 < 4160)
-  pin-decided few true p x h e = (omega arith, λ l. omega arith)
-  pin-decided few false p x h e = rw e (pin-known few p h)
-
 -- the tables of a trial, as they are made one after the other
-module _ (i c o n z b w k : ℕ) (kinds counts nets firsts order block reached cone slots gs decided fs cells : List ℕ) (low : ℕ → ℕ) (fault : Fault)
+module _ (i c o n z b w k : ℕ) (kinds counts nets branches firsts order block reached cone decided slots gs fs cells : List ℕ) (low : ℕ → ℕ)
     (L : InLimits (tabled i c o kinds counts nets)) (e : n ≡ allPins (tabled i c o kinds counts nets)) (F : FirstPins (tabled i c o kinds counts nets) firsts)
     (O : Ordered (tabled i c o kinds counts nets) order) (M : ReachMasks (tabled i c o kinds counts nets) cone) (D : Laid (tabled i c o kinds counts nets) b block low)
     (zo : z < o) (few : tally (relOf reached z) b ≤ 16) (U : Variables b (relOf reached z) slots w) (P : Picked c order (inCone firsts cone z) cells k)
-    (G : PinSlots i n slots nets block gs) (s : Sources (tabled i c o kinds counts nets) (fault .site) (i + 1025) decided) (H : PinSlots i n slots decided block fs)
+    (T : BranchTable (tabled i c o kinds counts nets) branches) (G : PinSlots i n slots branches nets block gs) (H : FaultSlots n decided gs fs)
     (kl : length kinds ≡ 1024) (cl : length counts ≡ 1024) (fl : length firsts ≡ 1025) where
   abbrev N : Netlist
   N = tabled i c o kinds counts nets
 
-  -- a good source, by what the pin names
-  input-slot : (p : ℕ) → p < allPins N → N .net p < i → getD gs p 0 ≡ variable (relOf reached z) (blocks N low .block p)
+  -- a good source, by what the pin is or names
+  input-slot : (p : ℕ) → p < allPins N → branchOf N p < i → getD gs p 0 ≡ variable (relOf reached z) (blocks N low .block p)
   input-slot p h l =
+      let t : getD branches p 0 < i = rw (T p h) l in
+      let bound : blocks N low .block p < b = omega (arith, counted N low (D .lowest) .in-block p h l, D .count-is) in
       G .slot p (omega arith)
-      ∙ ap (λ r. cond r (getD slots (getD block p 0) 0) (16 + (N .net p - i))) (lt-ltb (N .net p) i l)
+      ∙ ap (λ r. cond r (getD slots (getD block p 0) 0) (cond (ltb (N .net p) i) 1040 (16 + (N .net p - i)))) (lt-ltb (getD branches p 0) i t)
       ∙ ap (λ x. getD slots x 0) (block-is N L b block low D p h l)
-      ∙ U .slot (blocks N low .block p) (omega (arith, counted N low (D .lowest) p h l, D .count-is))
+      ∙ U .slot (blocks N low .block p) bound
 
-  cell-slot : (p j : ℕ) → p < allPins N → N .net p ≡ i + j → getD gs p 0 ≡ 16 + j
-  cell-slot p j h q =
+  other-slot : (p : ℕ) → p < allPins N → ¬ (branchOf N p < i) → getD gs p 0 ≡ cond (ltb (N .net p) i) 1040 (16 + (N .net p - i))
+  other-slot p h g =
+      let t : i ≤ getD branches p 0 = rw (T p h) (omega arith) in
       G .slot p (omega arith)
-      ∙ ap (λ r. cond r (getD slots (getD block p 0) 0) (16 + (N .net p - i))) (le-ltb (N .net p) i (omega arith))
-      ∙ ap (λ x. 16 + x) (omega arith)
+      ∙ ap (λ r. cond r (getD slots (getD block p 0) 0) (cond (ltb (N .net p) i) 1040 (16 + (N .net p - i)))) (le-ltb (getD branches p 0) i t)
 
-  -- a faulty source is the good one, but at the pins that the fault decides
-  faulty-is : (p : ℕ) → p < allPins N → getD fs p 0 ≡ cond (hits N (fault .site) p) 1041 (getD gs p 0)
-  faulty-is p h = H .slot p (omega arith) ∙ ap (λ x. slotOf i slots x (getD block p 0)) (s p h) ∙ go (hits N (fault .site) p)
-    where
-      go : (r : Bool) → slotOf i slots (cond r (i + 1025) (N .net p)) (getD block p 0) ≡ cond r 1041 (getD gs p 0)
-      go true = ap (λ r. cond r (getD slots (getD block p 0) 0) (16 + (i + 1025 - i))) (le-ltb (i + 1025) i (omega arith)) ∙ omega arith
-      go false = sym (G .slot p (omega arith))
+  cell-slot : (p j : ℕ) → p < allPins N → ¬ (branchOf N p < i) → N .net p ≡ i + j → getD gs p 0 ≡ 16 + j
+  cell-slot p j h g q = other-slot p h g ∙ ap (λ r. cond r 1040 (16 + (N .net p - i))) (le-ltb (N .net p) i (omega arith)) ∙ ap (λ x. 16 + x) (omega arith)
+
+  idle-slot : (p : ℕ) → p < allPins N → ¬ (branchOf N p < i) → N .net p < i → getD gs p 0 ≡ 1040
+  idle-slot p h g l = other-slot p h g ∙ ap (λ r. cond r 1040 (16 + (N .net p - i))) (lt-ltb (N .net p) i l)
+
+  -- a faulty source is the good one, but at the pins that are decided
+  faulty-is : (p : ℕ) → p < allPins N → getD fs p 0 ≡ faultSlot (getD decided p 0) (getD gs p 0)
+  faulty-is p h = H .slot p (omega arith)
 
   bench : Bench N low (relOf reached) z firsts order cone gs cells k
   bench =
@@ -94,6 +96,7 @@ module _ (i c o n z b w k : ℕ) (kinds counts nets firsts order block reached c
         few = rw (D .count-is) at few;
         input-slot = input-slot;
         cell-slot = cell-slot;
+        idle-slot = idle-slot;
         picked = P;
       }
 
@@ -128,11 +131,13 @@ module _ (i c o n z b w k : ℕ) (kinds counts nets firsts order block reached c
   good-low p h = omega (arith, good-few N low (relOf reached) z firsts order cone gs cells k bench p h)
 
   faulty-low : (p : ℕ) → p < allPins N → getD fs p 0 < 1152
-  faulty-low p h = rw (faulty-is p h) (go (hits N (fault .site) p))
+  faulty-low p h = rw (faulty-is p h) (go (getD decided p 0))
     where
-      go : (r : Bool) → cond r 1041 (getD gs p 0) < 1152
-      go true = omega arith
-      go false = good-low p h
+      go : (e : ℕ) → faultSlot e (getD gs p 0) < 1152
+      go e = elim (decLt e 2) [
+        | yes l ↦ rw (lt-ltb e 2 l) (omega arith)
+        | no g ↦ rw (le-ltb e 2 (omega arith)) (good-low p h)
+      ]
 
   out-is : n - o + z ≡ outPin N z
   out-is = omega arith
@@ -149,9 +154,9 @@ module _ (i c o n z b w k : ℕ) (kinds counts nets firsts order block reached c
         faulty-slot = faulty-low (n - o + z) (omega arith);
       }
 
-  pub tells : (one : ℕ) → ((l : ℕ) → l < 64 → digit l one ≡ eqb (fault .stuck) 1)
-      → Lanes N (blocks N low) (stuck fault) (relOf reached) z (wired kinds firsts counts gs 16) (wired kinds firsts counts fs 16) (λ t. getD cells t 0) k (n - o + z) w one
-  tells one one-is =
+  pub tells : (f : Lines) → Decided N f decided
+      → Lanes N (blocks N low) f (relOf reached) z (wired kinds firsts counts gs 16) (wired kinds firsts counts fs 16) (λ t. getD cells t 0) k (n - o + z) w
+  tells f E =
       let same : w ≡ width (blocks N low) (relOf reached) z = rw (D .count-is) at (U .count) in
       rw (out-is, same)
-      (lanes i c o kinds counts nets firsts order cone gs fs cells low (relOf reached) z k one fault bench faulty-is one-is (runs .good-cells) (runs .faulty-cells))
+      (lanes i c o kinds counts nets firsts order cone decided gs fs cells low (relOf reached) z k f bench faulty-is E (runs .good-cells) (runs .faulty-cells))

@@ -1,5 +1,5 @@
 -- Tables that are filled entry by entry, and what stands at a place of one.
-use Prim.Native.Nat.{ℕ, zero, suc, _+_, _*_, _<_}
+use Prim.Native.Nat.{ℕ, zero, suc, _+_, _*_, _-_, _<_}
 use mathlib.Core.Path.{_≡_, refl, sym, ap, _∙_}
 use mathlib.Core.Bool.{Bool, true, false}
 use mathlib.Core.List.{List}
@@ -12,7 +12,7 @@ use Rattle.chip.specs.Netlist.{bit}
 use Rattle.chip.specs.Class.{tally}
 use Rattle.chip.proofs.Blocks.{tally-most, tally-past}
 use Rattle.chip.specs.Search.{digit}
-use Rattle.trials.specs.Chunks.{variable, Variables, slotOf, PinSlots, Picked, Held, ChunkSlots}
+use Rattle.trials.specs.Chunks.{variable, Variables, slotOf, PinSlots, faultSlot, FaultSlots, Picked, Held, ChunkSlots}
 
 -- the number that passes the test as the one after k others
 pub passing : (test : ℕ → Bool) (n k : ℕ) → k < tally test n → (t : ℕ) × (t < n) × (test t ≡ true) × (tally test t ≡ k)
@@ -39,9 +39,20 @@ variables-more n rel table w v w′ l U e f =
     }
 
 -- one more pin has its slot
-pub pins-more : (i n : ℕ) (slots nets block sources : List ℕ) (v : ℕ) → n < 4096 → PinSlots i n slots nets block sources → v ≡ slotOf i slots (getD nets n 0) (getD block n 0)
-    → PinSlots i (n + 1) slots nets block (set sources n v)
-pins-more i n slots nets block sources v l P e =
+pub pins-more : (i n : ℕ) (slots branches nets block sources : List ℕ) (v : ℕ) → n < 4096 → PinSlots i n slots branches nets block sources
+    → v ≡ slotOf i slots (getD branches n 0) (getD nets n 0) (getD block n 0) → PinSlots i (n + 1) slots branches nets block (set sources n v)
+pins-more i n slots branches nets block sources v l P e =
+    record {
+      long = simp length-set (P .long);
+      slot = λ p h. elim (ℕ-discrete p n) [
+        | yes q ↦ rw (q, getD-set-same sources n v 0 (omega (arith, P .long))) e
+        | no g ↦ getD-set-other sources n p v 0 g ∙ P .slot p (omega arith)
+      ];
+    }
+
+pub fault-more : (n : ℕ) (decided good sources : List ℕ) (v : ℕ) → n < 4096 → FaultSlots n decided good sources → v ≡ faultSlot (getD decided n 0) (getD good n 0)
+    → FaultSlots (n + 1) decided good (set sources n v)
+fault-more n decided good sources v l P e =
     record {
       long = simp length-set (P .long);
       slot = λ p h. elim (ℕ-discrete p n) [
@@ -81,16 +92,16 @@ module _ (n : ℕ) (order : List ℕ) (test : ℕ → Bool) (cells : List ℕ) (
       clash q = let z : _≡_ {A = ℕ} 0 1 = cc in omega arith
 
 -- the slots of a chunk before any variable has its word, and with one more
-pub chunk-start : (q one : ℕ) (slots : List ℕ) → Held one slots → ChunkSlots 0 q one slots
-chunk-start q one slots h = record { held = h; bits = λ s l a. absurd (omega arith) }
+pub chunk-start : (q : ℕ) (slots : List ℕ) → Held slots → ChunkSlots 0 q slots
+chunk-start q slots h = record { held = h; bits = λ s l a. absurd (omega arith) }
 
-pub chunk-more : (w q one : ℕ) (slots : List ℕ) (v : ℕ) → w < 16 → ChunkSlots w q one slots → ((l : ℕ) → l < 64 → digit l v ≡ digit w (64 * q + l)) → ChunkSlots (w + 1) q one (set slots w v)
-chunk-more w q one slots v few C e =
+pub chunk-more : (w q : ℕ) (slots : List ℕ) (v : ℕ) → w < 16 → ChunkSlots w q slots → ((l : ℕ) → l < 64 → digit l v ≡ digit w (64 * q + l)) → ChunkSlots (w + 1) q (set slots w v)
+chunk-more w q slots v few C e =
     record {
       held = record {
         long = simp length-set (C .held .long);
         zeros = getD-set-other slots w 1040 v 0 (λ q. omega arith) ∙ C .held .zeros;
-        stuck = getD-set-other slots w 1041 v 0 (λ q. omega arith) ∙ C .held .stuck;
+        ones = getD-set-other slots w 1041 v 0 (λ q. omega arith) ∙ C .held .ones;
       };
       bits = λ s l a h. elim (ℕ-discrete s w) [
         | yes q ↦ rw (q, getD-set-same slots w v 0 (omega (arith, C .held .long))) (e l h)

@@ -1,20 +1,18 @@
-// The patterns of one output, 64 at a time: the first that shows a fault.
-// A word stands in a slot: slots 0 to 15 are the variables, slot 16 + j is cell j's, slot 1040 holds zeros and slot 1041 the stuck value.
+// The patterns of one output, 64 at a time: the first that shows a fault, which stands in a table of what it decides each pin to.
+// A word stands in a slot: slots 0 to 15 are the variables, slot 16 + j is cell j's, slot 1040 holds zeros and slot 1041 ones.
 ghost use mathlib.Core.Path.{_≡_};
 ghost use mathlib.Core.Bool.{Bool};
 ghost use Prim.Native.Nat.{ℕ, _+_, _-_, _≤_, _<_};
 ghost use lib.ListN.{length, getD};
-ghost use lib.Dec.{eqb};
 ghost use Rattle.chip.specs.Netlist.{Netlist, allPins, InLimits};
-ghost use Rattle.chip.specs.Inner.Tables.{tabled, FirstPins};
+ghost use Rattle.chip.specs.Inner.Tables.{tabled, FirstPins, BranchTable};
 ghost use Rattle.chip.specs.Class.{Blocks, blocks, tally};
-ghost use Rattle.chip.specs.Faults.{Lines, stuck};
-ghost use Rattle.chip.specs.Search.{digit};
+ghost use Rattle.chip.specs.Faults.{Lines};
 ghost use Rattle.order.specs.Order.{Ordered};
 ghost use Rattle.words.specs.Lanes.{wired};
+ghost use Rattle.faults.specs.Decided.{Decided};
 ghost use Rattle.trials.specs.Trials.{relOf, ReachMasks, TrialIs};
-ghost use Rattle.trials.specs.Chunks.{Laid, Variables, slotOf, PinSlots, inCone, Picked, Held, ChunkSlots, Runnable, ChunkDone, Lanes};
-use chip::Fault;
+ghost use Rattle.trials.specs.Chunks.{Laid, Variables, slotOf, PinSlots, faultSlot, FaultSlots, inCone, Picked, Held, ChunkSlots, Runnable, ChunkDone, Lanes};
 use chip::wide;
 
 // The number of the first pattern that shows the fault, or that no pattern does.
@@ -42,13 +40,16 @@ fn variables(z: usize, b: usize, reached: &[u64; 4160], table: &mut [u16]) -> us
     wide(w)
 }
 
-// The slot of a pin that names a net and is in a block. The net i + 1025 stands for the stuck value.
-fn slot(i: usize, slots: &[u16; 4160], net: u16, block: u16) -> u16
-    requires { ⌜ (i ≤ 64) × (net ≤ i + 1025) × (net < i → block < 4160) ⌝ }
-    ensures { λ r. ⌜ r ≡ slotOf i (now (slots .entry)) net block ⌝ }
+// The slot of a pin that is a branch, names a net and is in a block. A branch has its block's slot; another pin that names an input goes into a pad buffer, and what it sees does not matter.
+fn slot(i: usize, slots: &[u16; 4160], branch: u16, net: u16, block: u16) -> u16
+    requires { ⌜ (i ≤ 64) × (net ≤ i + 1024) × (branch < i → block < 4160) ⌝ }
+    ensures { λ r. ⌜ r ≡ slotOf i (now (slots .entry)) branch net block ⌝ }
 {
-    if wide(net) < i {
+    if wide(branch) < i {
         return slots[wide(block)];
+    }
+    if wide(net) < i {
+        return 1040;
     }
     16 + (net - (i as u16))
 }
@@ -58,16 +59,37 @@ fn pin_slots(
     i: usize,
     n: usize,
     slots: &[u16; 4160],
+    branches: &[u16; 4096],
     nets: &[u16; 4096],
     block: &[u16; 4096],
     sources: &mut [u16],
 )
     requires { ⌜ (i ≤ 64) × (n ≤ 4096) × (length (now sources) ≡ 4096) ⌝ }
-    requires { ⌜ ((p : ℕ) → p < n → (getD (now nets) p 0 ≤ i + 1025) × (getD (now nets) p 0 < i → getD (now block) p 0 < 4160)) ⌝ }
-    ensures { λ _. ⌜ PinSlots i n (now (slots .entry)) (now (nets .entry)) (now (block .entry)) (now (sources .exit)) ⌝ }
+    requires { ⌜ ((p : ℕ) → p < n → (getD (now nets) p 0 ≤ i + 1024) × (getD (now branches) p 0 < i → getD (now block) p 0 < 4160)) ⌝ }
+    ensures { λ _. ⌜ PinSlots i n (now (slots .entry)) (now (branches .entry)) (now (nets .entry)) (now (block .entry)) (now (sources .exit)) ⌝ }
 {
     for p in 0..n {
-        sources[p] = slot(i, slots, nets[p], block[p]);
+        sources[p] = slot(i, slots, branches[p], nets[p], block[p]);
+    }
+}
+
+// The slot in the faulty circuit of a pin that is decided to a byte: that of the constant, or its good slot.
+fn fault_slot(byte: u8, good: u16) -> u16
+    ensures { λ r. ⌜ r ≡ faultSlot byte good ⌝ }
+{
+    if byte < 2 {
+        return 1040 + (byte as u16);
+    }
+    good
+}
+
+// The slots of the n pins in the faulty circuit.
+fn fault_slots(n: usize, decided: &[u8; 4096], good: &[u16; 4096], faulty: &mut [u16])
+    requires { ⌜ (n ≤ 4096) × (length (now faulty) ≡ 4096) ⌝ }
+    ensures { λ _. ⌜ FaultSlots n (now (decided .entry)) (now (good .entry)) (now (faulty .exit)) ⌝ }
+{
+    for p in 0..n {
+        faulty[p] = fault_slot(decided[p], good[p]);
     }
 }
 
@@ -98,18 +120,10 @@ fn cone_cells(
     k
 }
 
-// The word of a stuck value.
-fn stuck_word(b: u8) -> u64
-    ensures { λ r. ⌜ ((l : ℕ) → l < 64 → digit l r ≡ eqb b 1) ⌝ }
-{
-    if b == 1 { 0xffff_ffff_ffff_ffff } else { 0 }
-}
-
 // Gives the w variables their words of chunk q.
 fn set_variables(w: usize, q: u64, slots: &mut [u64])
-    requires { ⌜ (w ≤ 16) × (length (now slots) ≡ 1152) ⌝ }
-    ensures { λ _. ⌜ length (now (slots .exit)) ≡ 1152 ⌝ }
-    ensures { λ _. ⌜ ((one : ℕ) → Held one (now (slots .entry)) → ChunkSlots w q one (now (slots .exit))) ⌝ }
+    requires { ⌜ (w ≤ 16) × Held (now slots) ⌝ }
+    ensures { λ _. ⌜ ChunkSlots w q (now (slots .exit)) ⌝ }
 {
     for s in 0..w {
         slots[s] = words::pattern_word(s, q);
@@ -130,11 +144,10 @@ fn chunk(
     q: u64,
     slots: &mut [u64],
 ) -> usize
-    requires { ⌜ (w ≤ 16) × (length (now slots) ≡ 1152) ⌝ }
+    requires { ⌜ (w ≤ 16) × Held (now slots) ⌝ }
     requires { ⌜ Runnable (now kinds) (now firsts) (now counts) (now good) (now faulty) (now cells) k out ⌝ }
-    ensures { λ _. ⌜ length (now (slots .exit)) ≡ 1152 ⌝ }
-    ensures { λ r. ⌜ ((one : ℕ) → Held one (now (slots .entry)) → ChunkDone (wired (now (kinds .entry)) (now (firsts .entry)) (now (counts .entry)) (now (good .entry)) 16)
-        (wired (now (kinds .entry)) (now (firsts .entry)) (now (counts .entry)) (now (faulty .entry)) 16) (λ t. getD (now (cells .entry)) t 0) k out w q one (now (slots .exit)) r) ⌝ }
+    ensures { λ r. ⌜ ChunkDone (wired (now (kinds .entry)) (now (firsts .entry)) (now (counts .entry)) (now (good .entry)) 16)
+        (wired (now (kinds .entry)) (now (firsts .entry)) (now (counts .entry)) (now (faulty .entry)) 16) (λ t. getD (now (cells .entry)) t 0) k out w q (now (slots .exit)) r ⌝ }
 {
     set_variables(w, q, slots);
     words::run_cells(kinds, firsts, counts, good, 16, cells, k, slots);
@@ -156,11 +169,11 @@ fn try_chunks(
     w: usize,
     slots: &mut [u64],
 ) -> Trial
-    requires { ⌜ (w ≤ 16) × (length (now slots) ≡ 1152) ⌝ }
+    requires { ⌜ (w ≤ 16) × Held (now slots) ⌝ }
     requires { ⌜ Runnable (now kinds) (now firsts) (now counts) (now good) (now faulty) (now cells) k out ⌝ }
-    ensures { λ r. ⌜ ((N : Netlist) (B : Blocks) (f : Lines) (rel : ℕ → ℕ → Bool) (z one : ℕ) → Held one (now (slots .entry))
+    ensures { λ r. ⌜ ((N : Netlist) (B : Blocks) (f : Lines) (rel : ℕ → ℕ → Bool) (z : ℕ)
         → Lanes N B f rel z (wired (now (kinds .entry)) (now (firsts .entry)) (now (counts .entry)) (now (good .entry)) 16)
-        (wired (now (kinds .entry)) (now (firsts .entry)) (now (counts .entry)) (now (faulty .entry)) 16) (λ t. getD (now (cells .entry)) t 0) k out w one
+        (wired (now (kinds .entry)) (now (firsts .entry)) (now (counts .entry)) (now (faulty .entry)) 16) (λ t. getD (now (cells .entry)) t 0) k out w
         → TrialIs N B f rel z r) ⌝ }
 {
     let total = words::one_bit(w);
@@ -187,7 +200,7 @@ fn try_chunks(
     Trial::Never
 }
 
-// Tries the patterns for output z of a prepared chip, whose b blocks have numbers in `block` and reach the outputs of `reached`; `cone` has the outputs that each pin reaches.
+// Tries the patterns for output z of a prepared chip, whose b blocks have numbers in `block` and reach the outputs of `reached`; `cone` has the outputs that each pin reaches, and `decided` what the fault decides each pin to.
 pub fn try_output(
     i: usize,
     c: usize,
@@ -200,10 +213,11 @@ pub fn try_output(
     firsts: &[u16; 1025],
     nets: &[u16; 4096],
     order: &[u16; 1024],
+    branches: &[u16; 4096],
     block: &[u16; 4096],
     reached: &[u64; 4160],
     cone: &[u64; 4096],
-    fault: Fault,
+    decided: &[u8; 4096],
 ) -> Trial
     requires { ⌜ InLimits (tabled i c o (now kinds) (now counts) (now nets)) ⌝ }
     requires { ⌜ n ≡ allPins (tabled i c o (now kinds) (now counts) (now nets)) ⌝ }
@@ -212,23 +226,22 @@ pub fn try_output(
     requires { ⌜ ReachMasks (tabled i c o (now kinds) (now counts) (now nets)) (now cone) ⌝ }
     requires { ⌜ (b ≤ 4160) × ((low : ℕ → ℕ) × Laid (tabled i c o (now kinds) (now counts) (now nets)) b (now block) low) ⌝ }
     requires { ⌜ (z < o) × (tally (relOf (now reached) z) b ≤ 16) ⌝ }
-    ensures { λ r. ⌜ ((low : ℕ → ℕ) → Laid (tabled i c o (now (kinds .entry)) (now (counts .entry)) (now (nets .entry))) b (now (block .entry)) low
+    requires { ⌜ BranchTable (tabled i c o (now kinds) (now counts) (now nets)) (now branches) ⌝ }
+    ensures { λ r. ⌜ ((low : ℕ → ℕ) (f : Lines) → Laid (tabled i c o (now (kinds .entry)) (now (counts .entry)) (now (nets .entry))) b (now (block .entry)) low
+        → Decided (tabled i c o (now (kinds .entry)) (now (counts .entry)) (now (nets .entry))) f (now (decided .entry))
         → TrialIs (tabled i c o (now (kinds .entry)) (now (counts .entry)) (now (nets .entry))) (blocks (tabled i c o (now (kinds .entry)) (now (counts .entry)) (now (nets .entry))) low)
-        (stuck fault) (relOf (now (reached .entry))) z r) ⌝ }
+        f (relOf (now (reached .entry))) z r) ⌝ }
 {
     let mut slots = [0u16; 4160];
     let w = variables(z, b, reached, &mut slots);
     let mut cells = [0u16; 1024];
     let k = cone_cells(c, z, firsts, order, cone, &mut cells);
     let mut good = [0u16; 4096];
-    pin_slots(i, n, &slots, nets, block, &mut good);
-    let mut decided = [0u16; 4096];
-    let site = fault.site;
-    faults::sources(n, nets, site, (i + 1025) as u16, &mut decided);
+    pin_slots(i, n, &slots, branches, nets, block, &mut good);
     let mut faulty = [0u16; 4096];
-    pin_slots(i, n, &slots, &decided, block, &mut faulty);
+    fault_slots(n, decided, &good, &mut faulty);
     let mut values = [0u64; 1152];
-    values[1041] = stuck_word(fault.stuck);
+    values[1041] = 0xffff_ffff_ffff_ffff;
     try_chunks(
         kinds,
         counts,

@@ -8,11 +8,12 @@ ghost use Rattle.chip.specs.Netlist.{Netlist, allPins, bit, InLimits};
 ghost use Rattle.chip.specs.Inner.Tables.{tabled, FirstPins};
 ghost use Rattle.chip.specs.Class.{Lowest, blocks};
 ghost use Rattle.chip.specs.Transformed.{flat};
-ghost use Rattle.chip.specs.Faults.{SiteIn};
+ghost use Rattle.chip.specs.Faults.{SiteIn, stuck};
 ghost use Rattle.chip.specs.declared.Site.the-variants.{Net};
 ghost use Rattle.chip.specs.Search.{SiteReaches, digit};
 ghost use Rattle.order.specs.Order.{Ordered};
 ghost use Rattle.levels.specs.Levels.{Mask};
+ghost use Rattle.faults.specs.Decided.{Decided};
 ghost use Rattle.trials.specs.Trials.{ReachMasks};
 ghost use Rattle.walk.specs.Walk.{Ready, widthOf, TooWide, Walkable, WalkIs, PatternBytes, Played};
 use chip::Fault;
@@ -151,27 +152,28 @@ fn pattern_count(b: usize, z: usize, reached: &[u64; 4160]) -> usize
     1usize << w
 }
 
-// Walks the outputs of the word, lowest first, and counts the tries: up to and including the first hit, or all.
-pub fn walk_outputs(
+// Tries the outputs of the word, lowest first, and counts the tries: up to and including the first hit, or all. The table has what the fault decides each pin to.
+fn try_outputs(
     i: usize,
     c: usize,
     o: usize,
     n: usize,
     s: Shape,
-    fault: Fault,
     outs: u64,
     kinds: &[u8; 1024],
     counts: &[u8; 1024],
     firsts: &[u16; 1025],
     nets: &[u16; 4096],
     order: &[u16; 1024],
+    branches: &[u16; 4096],
     block: &[u16; 4096],
     reached: &[u64; 4160],
     cone: &[u64; 4096],
+    decided: &[u8; 4096],
 ) -> Walk
-    requires { ⌜ Ready (tabled i c o (now kinds) (now counts) (now nets)) n s (now firsts) (now order) (now block) (now reached) (now cone) ⌝ }
-    requires { ⌜ Walkable (tabled i c o (now kinds) (now counts) (now nets)) s fault outs (now reached) ⌝ }
-    ensures { λ r. ⌜ ((low : ℕ → ℕ) → Lowest (tabled i c o (now (kinds .entry)) (now (counts .entry)) (now (nets .entry))) low
+    requires { ⌜ Ready (tabled i c o (now kinds) (now counts) (now nets)) n s (now firsts) (now order) (now branches) (now block) (now reached) (now cone) ⌝ }
+    requires { ⌜ ((fault : Fault) × Walkable (tabled i c o (now kinds) (now counts) (now nets)) s fault outs (now reached) × Decided (tabled i c o (now kinds) (now counts) (now nets)) (stuck fault) (now decided)) ⌝ }
+    ensures { λ r. ⌜ ((low : ℕ → ℕ) (fault : Fault) → Lowest (tabled i c o (now (kinds .entry)) (now (counts .entry)) (now (nets .entry))) low → Decided (tabled i c o (now (kinds .entry)) (now (counts .entry)) (now (nets .entry))) (stuck fault) (now (decided .entry))
         → WalkIs (tabled i c o (now (kinds .entry)) (now (counts .entry)) (now (nets .entry)))
         (blocks (tabled i c o (now (kinds .entry)) (now (counts .entry)) (now (nets .entry))) low) fault outs (now (reached .entry)) r) ⌝ }
 {
@@ -191,10 +193,11 @@ pub fn walk_outputs(
                 firsts,
                 nets,
                 order,
+                branches,
                 block,
                 reached,
                 cone,
-                fault,
+                decided,
             ) {
                 Trial::Shows(m) => {
                     return Walk::Hit(z, m, tries + (m + 1));
@@ -206,6 +209,66 @@ pub fn walk_outputs(
         z += 1;
     }
     Walk::Missed(tries)
+}
+
+// Walks the outputs of the word for a fault. What it decides each pin to is worked out once, and not for each output.
+pub fn walk_outputs(
+    i: usize,
+    c: usize,
+    o: usize,
+    n: usize,
+    s: Shape,
+    fault: Fault,
+    outs: u64,
+    kinds: &[u8; 1024],
+    counts: &[u8; 1024],
+    firsts: &[u16; 1025],
+    nets: &[u16; 4096],
+    order: &[u16; 1024],
+    branches: &[u16; 4096],
+    block: &[u16; 4096],
+    reached: &[u64; 4160],
+    cone: &[u64; 4096],
+) -> Walk
+    requires { ⌜ Ready (tabled i c o (now kinds) (now counts) (now nets)) n s (now firsts) (now order) (now branches) (now block) (now reached) (now cone) ⌝ }
+    requires { ⌜ Walkable (tabled i c o (now kinds) (now counts) (now nets)) s fault outs (now reached) ⌝ }
+    ensures { λ r. ⌜ ((low : ℕ → ℕ) → Lowest (tabled i c o (now (kinds .entry)) (now (counts .entry)) (now (nets .entry))) low
+        → WalkIs (tabled i c o (now (kinds .entry)) (now (counts .entry)) (now (nets .entry)))
+        (blocks (tabled i c o (now (kinds .entry)) (now (counts .entry)) (now (nets .entry))) low) fault outs (now (reached .entry)) r) ⌝ }
+{
+    let mut decided = [2u8; 4096];
+    faults::decided(
+        i,
+        c,
+        o,
+        n,
+        kinds,
+        counts,
+        firsts,
+        nets,
+        order,
+        branches,
+        fault,
+        &mut decided,
+    );
+    try_outputs(
+        i,
+        c,
+        o,
+        n,
+        s,
+        outs,
+        kinds,
+        counts,
+        firsts,
+        nets,
+        order,
+        branches,
+        block,
+        reached,
+        cone,
+        &decided,
+    )
 }
 
 // The byte of bit w of a number.
@@ -249,11 +312,12 @@ pub fn play_pattern(
     firsts: &[u16; 1025],
     nets: &[u16; 4096],
     order: &[u16; 1024],
+    branches: &[u16; 4096],
     block: &[u16; 4096],
     reached: &[u64; 4160],
     play: &mut [u8],
 )
-    requires { ⌜ ((cone : List ℕ) × Ready (tabled i c o (now kinds) (now counts) (now nets)) n s (now firsts) (now order) (now block) (now reached) cone) ⌝ }
+    requires { ⌜ ((cone : List ℕ) × Ready (tabled i c o (now kinds) (now counts) (now nets)) n s (now firsts) (now order) (now branches) (now block) (now reached) cone) ⌝ }
     requires { ⌜ (s .class ≢ 1) × (z < o) × (widthOf (s .blocks) (now reached) z ≤ 16) × (suc (s .depth) * i ≤ length (now play)) ⌝ }
     ensures { λ _. ⌜ ((low : ℕ → ℕ) → Lowest (tabled i c o (now (kinds .entry)) (now (counts .entry)) (now (nets .entry))) low
         → Played (tabled i c o (now (kinds .entry)) (now (counts .entry)) (now (nets .entry)))
@@ -275,6 +339,7 @@ pub fn play_pattern(
         firsts,
         nets,
         order,
+        branches,
         block,
         &bytes[..b],
         play,

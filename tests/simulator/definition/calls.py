@@ -5,6 +5,7 @@ from functools import lru_cache
 from itertools import product
 
 from simulator.definition.machine import Machine, step_both
+from simulator.definition.pads import ways
 from simulator.definition.paths import MOST_BRANCHES, Written
 from simulator.definition.reading import read
 from simulator.faults import NET, PIN, Fault, Found, Untestable
@@ -17,8 +18,7 @@ sys.setrecursionlimit(10_000)  # values and paths are followed by recursion, thr
 
 def manageable(netlist):
     """Whether a netlist is small enough for all of this mode."""
-    named = netlist.named()
-    return (all(named.count(i) <= MOST_BRANCHES for i in range(netlist.inputs))
+    return (all(len(way) <= MOST_BRANCHES for way in ways(netlist))
             and sum(kind in (8, 9) for kind in netlist.kinds) <= MOST_FLIP_FLOPS)
 
 
@@ -35,7 +35,9 @@ def good_machine(data):
 
 @lru_cache(maxsize=32)
 def good_transformed(data):
-    return Machine(prepare(data).transformed(), {})
+    """The transformed circuit, and the machine that it is without a fault."""
+    transformed = prepare(data).transformed()
+    return transformed, Machine(transformed.netlist, {})
 
 
 def refuse(when, number, place):
@@ -73,7 +75,9 @@ def transform(data, buffer):
     """Writes the transformed circuit and returns its length."""
     chip = prepare(data)
     refuse(len(chip.blocks) > 64, 17, len(chip.blocks))
-    new = chip.transformed()
+    new = chip.transformed().netlist
+    refuse(len(new.cells) > 1024, 2, 0)
+    refuse(new.pins > 4096, 7, 0)
     fields = [(2, new.inputs)] + [(1, pad) for pad in new.input_pads] + [(2, len(new.cells))]
     for kind, nets in zip(new.kinds, new.cells):
         fields += [(1, kind), (1, len(nets))] + [(2, net) for net in nets]
@@ -138,15 +142,6 @@ def check_play(data, fault, play):
     return None
 
 
-def stuck_when_transformed(chip, fault):
-    """The stuck sites in the transformed circuit: a stuck input is stuck in all its blocks."""
-    if fault.sort == PIN:
-        return {(PIN, fault.number): fault.stuck}
-    if fault.number >= chip.netlist.inputs:
-        return {(NET, fault.number - chip.netlist.inputs + len(chip.blocks)): fault.stuck}
-    return {(NET, b): fault.stuck for b, (i, _) in enumerate(chip.blocks) if i == fault.number}
-
-
 def search(data, fault, buffer):
     """Found, with the play in the buffer, or untestable: output by output, pattern by pattern."""
     chip = prepare(data)
@@ -159,8 +154,8 @@ def search(data, fault, buffer):
     for z in reached:
         refuse(len(blocks[z]) > 16, 16, z)
     refuse(len(buffer) < chip.netlist.inputs * (chip.depth + 1), 15, chip.netlist.inputs * (chip.depth + 1))
-    good = good_transformed(data)
-    faulty = Machine(good.netlist, stuck_when_transformed(chip, fault))
+    transformed, good = good_transformed(data)
+    faulty = Machine(transformed.netlist, transformed.stuck(fault))
     tries = 0
     for z in reached:
         for number in range(2 ** len(blocks[z])):

@@ -1,6 +1,7 @@
 """Depth, blocks, class and the transformed circuit, from paths that are written out one by one."""
 
-from simulator.reading import Netlist, Refused
+from simulator.definition import pads
+from simulator.reading import Refused
 
 MOST_BRANCHES = 6  # of one input, for trying all partitions
 
@@ -28,13 +29,14 @@ class Written:
         if looping:
             raise Refused(9, looping[0])
         self.paths_from, self.ends_from = {}, {}
-        depth = [max(e for p in self.branches() for z, e in self.ends(p) if z == k)
+        depth = [max(e for p in self.input_pins() for z, e in self.ends(p) if z == k)
                  for k in range(len(netlist.outputs))]
         for z, e in enumerate(depth):
             if e > 255:
                 raise Refused(10, z)
         self.depth = max(depth)
-        self.blocks = [(i, block) for i in range(netlist.inputs) for block in self.finest(self.naming[i])]
+        self.ways = pads.ways(netlist)
+        self.blocks = [(i, block) for i, way in enumerate(self.ways) for block in self.finest(list(way))]
 
     def looping(self):
         """The nets that reach themselves through at least one cell, lowest first, by closing the relation "feeds"."""
@@ -46,7 +48,8 @@ class Written:
                     fed |= feeds[middle]
         return [net for net, fed in enumerate(feeds) if net in fed]
 
-    def branches(self):
+    def input_pins(self):
+        """The pins that name an input."""
         return [p for p, net in enumerate(self.named) if net < self.netlist.inputs]
 
     def paths(self, p):
@@ -93,11 +96,5 @@ class Written:
         return 1 if any(self.two_depths(block) for _, block in self.blocks) else 2
 
     def transformed(self):
-        """Each block an input, each DFF a BUF, each DFFN a NOT."""
-        count, inputs = len(self.blocks), self.netlist.inputs
-        new = iter([next(b for b, (_, block) in enumerate(self.blocks) if p in block) if net < inputs
-                    else net - inputs + count for p, net in enumerate(self.named)])
-        return Netlist(tuple(b + 1 for b in range(count)),
-                       tuple({8: 0, 9: 1}.get(kind, kind) for kind in self.netlist.kinds),
-                       tuple(tuple(next(new) for _ in nets) for nets in self.netlist.cells),
-                       tuple(count + 1 + k for k in range(len(self.netlist.outputs))), tuple(new))
+        """Each block an input, each DFF a BUF, each DFFN a NOT, each further block with copies of its pad buffers."""
+        return pads.transformed(self.netlist, self.blocks, self.ways)

@@ -25,4 +25,4 @@ pub data Answered (N : Netlist) (d : ℕ) (fault : Fault) (play : List ℕ) : Ch
 pub data Prepares (N : Netlist) (fault : Fault) (play : List ℕ) : Checked → Type 0 where
   looped : {n : ℕ} → LowestLoop N n → Prepares N fault play (Refused 9 n)
   deep : {y : ℕ} → LoopFree N × LowestDeep N y → Prepares N fault play (Refused 10 y)
-  chip : {firsts order block reached : List ℕ} {s : Shape} {r : Checked} → Shaped N firsts order block reached s → Answered N (s .depth) fault play r → Prepares N fault play r
+  chip : {firsts order branches block reached : List ℕ} {s : Shape} {r : Checked} → Shaped N firsts order branches block reached s → Answered N (s .depth) fault play r → Prepares N fault play r

@@ -7,7 +7,7 @@ use Rattle.clocks.proofs.read_tables.Tie as tie
 
 prepare-requires : tie.Need-prepare-requires
 prepare-requires c κs =
-    let s = c .before .before .before .before .before .before .before .before .before .before .before .before in
+    let s = c .before .before .before .before .before .before .before .before .before .before .before .before .before in
     let h = s .pre .1 in
     (tables-limits _ _ _ h, (tables-pins _ _ _ h, λ l b. getD-replicate 4160 l 0 0 b))
 
@@ -22,30 +22,30 @@ enum-known-s c = search needs
 
 read-chip-requires : tie.Need-read-chip-requires
 read-chip-requires c κs =
-    let t = c .before .before .before .before .before .before .before in
+    let t = c .before .before .before .before .before .before .before .before in
     let p = t .before .before .before in
-    let s = p .before .before .before .before .before .before .before .before .before .before .before .before .before in
+    let s = p .before .before .before .before .before .before .before .before .before .before .before .before .before .before in
     let h = s .pre .1 in
-    (tables-limits _ _ _ h, (tables-pins _ _ _ h, (_, found-chip _ _ _ _ _ _ (p .prepare .ensures) _ (t .before .s .given .1))))
+    (tables-limits _ _ _ h, (tables-pins _ _ _ h, (_, found-chip _ _ _ _ _ _ _ (p .prepare .ensures) _ (t .before .s .given .1))))
 
 returns : tie.Need-returns
 returns c =
     let p = c .before .before .before in
-    λ file h. ReadReply.refuses (opens-looped file _ _ h _ (found-looped _ _ _ _ _ _ (p .prepare .ensures) _ (c .before .m .given .1)))
+    λ file h. ReadReply.refuses (opens-looped file _ _ h _ (found-looped _ _ _ _ _ _ _ (p .prepare .ensures) _ (c .before .m .given .1)))
 
 returns-2 : tie.Need-returns-2
 returns-2 c =
     let p = c .before .before .before in
-    λ file h. ReadReply.refuses (opens-deep file _ _ h _ (found-deep _ _ _ _ _ _ (p .prepare .ensures) _ (c .before .y .given .1)))
+    λ file h. ReadReply.refuses (opens-deep file _ _ h _ (found-deep _ _ _ _ _ _ _ (p .prepare .ensures) _ (c .before .y .given .1)))
 
 same-length : tie.Need-same-length
 same-length c = search needs
 
 returns-3 : tie.Need-returns-3
 returns-3 c =
-    let t = c .before .before .before .before .before .before .before .before .before .before in
+    let t = c .before .before .before .before .before .before .before .before .before .before .before in
     let p = t .before .before .before in
-    λ file h. c .before .before .read-chip .ensures file (h .x) (opens-chip file _ _ h _ _ _ _ _ (found-chip _ _ _ _ _ _ (p .prepare .ensures) _ (t .before .s .given .1))) (tables-chip file _ _ h)
+    λ file h. c .before .before .read-chip .ensures file (h .x) (opens-chip file _ _ h _ _ _ _ _ _ (found-chip _ _ _ _ _ _ _ (p .prepare .ensures) _ (t .before .s .given .1))) (tables-chip file _ _ h)
 
 pub read-tables-spec : {M : Type 1} → statement M
 read-tables-spec =

@@ -6,10 +6,10 @@ use Rattle.listing.proofs.list.Statement.{statement}
 use Rattle.listing.proofs.list.Tie as tie
 
 abbrev Inv-loop : tie.InvT-loop
-Inv-loop i c o n s kinds counts firsts nets order block reached cone play₀ line₀ used₀ k₀ k-end play line used k = (k ≤ k-end) × (k-end ≤ 10368) × (length play ≡ length play₀)
+Inv-loop i c o n s kinds counts firsts nets order branches block reached cone play₀ line₀ used₀ k₀ k-end play line used k = (k ≤ k-end) × (k-end ≤ 10368) × (length play ≡ length play₀)
 
 abbrev μ-loop : tie.MeasureT-loop
-μ-loop i c o n s kinds counts firsts nets order block reached cone play₀ line₀ used₀ k₀ k-end play line used k = k-end - k
+μ-loop i c o n s kinds counts firsts nets order branches block reached cone play₀ line₀ used₀ k₀ k-end play line used k = k-end - k
 
 sizes-requires : tie.Need-sizes-requires Inv-loop μ-loop
 sizes-requires c κs = search needs

@@ -21,7 +21,7 @@ enum-known-reading-2 : tie.Need-enum-known-reading-2
 enum-known-reading-2 c = search needs
 
 prepare-requires : tie.Need-prepare-requires
-prepare-requires c κs = let h = holds _ _ _ (c .before .before .before .before .before .before .before .before .before .before .before .before .before .read .ensures) (c .before .before .before .before .before .before .before .before .before .before .before .reading2 .given .1) in (tables-limits _ _ _ h, (tables-pins _ _ _ h, λ l b. getD-replicate 4160 l 0 0 b))
+prepare-requires c κs = let h = holds _ _ _ (c .before .before .before .before .before .before .before .before .before .before .before .before .before .before .read .ensures) (c .before .before .before .before .before .before .before .before .before .before .before .before .reading2 .given .1) in (tables-limits _ _ _ h, (tables-pins _ _ _ h, λ l b. getD-replicate 4160 l 0 0 b))
 
 enum-known-m : tie.Need-enum-known-m
 enum-known-m c = search needs
@@ -51,10 +51,10 @@ returns-4 : tie.Need-returns-4
 returns-4 c = search needs
 
 reach-masks-requires : tie.Need-reach-masks-requires
-reach-masks-requires c κs = let h = holds _ _ _ (c .before .before .before .before .before .before .before .before .before .before .before .before .before .before .before .before .before .before .before .before .before .before .before .before .before .read .ensures) (c .before .before .before .before .before .before .before .before .before .before .before .before .before .before .before .before .before .before .before .before .before .before .before .reading2 .given .1) in let S = found-chip _ _ _ _ _ _ (c .before .before .before .before .before .before .before .before .before .before .before .prepare .ensures) _ (c .before .before .before .before .before .before .before .before .before .s .given .1) in (tables-limits _ _ _ h, (S .first-pins, S .ordered))
+reach-masks-requires c κs = let h = holds _ _ _ (c .before .before .before .before .before .before .before .before .before .before .before .before .before .before .before .before .before .before .before .before .before .before .before .before .before .before .read .ensures) (c .before .before .before .before .before .before .before .before .before .before .before .before .before .before .before .before .before .before .before .before .before .before .before .before .reading2 .given .1) in let S = found-chip _ _ _ _ _ _ _ (c .before .before .before .before .before .before .before .before .before .before .before .prepare .ensures) _ (c .before .before .before .before .before .before .before .before .before .s .given .1) in (tables-limits _ _ _ h, (S .first-pins, S .ordered))
 
 list-requires : tie.Need-list-requires
-list-requires c κs = let h = holds _ _ _ (c .before .before .before .before .before .before .before .before .before .before .before .before .before .before .before .before .before .before .before .before .before .before .before .before .before .before .before .before .before .before .before .before .before .before .before .before .before .read .ensures) (c .before .before .before .before .before .before .before .before .before .before .before .before .before .before .before .before .before .before .before .before .before .before .before .before .before .before .before .before .before .before .before .before .before .before .before .reading2 .given .1) in let S = found-chip _ _ _ _ _ _ (c .before .before .before .before .before .before .before .before .before .before .before .before .before .before .before .before .before .before .before .before .before .before .before .prepare .ensures) _ (c .before .before .before .before .before .before .before .before .before .before .before .before .before .before .before .before .before .before .before .before .before .s .given .1) in record { limits = tables-limits _ _ _ h; pins = tables-pins _ _ _ h; shaped = S; cones = c .before .before .before .before .before .before .before .before .before .before .before .reach-masks .ensures }
+list-requires c κs = let h = holds _ _ _ (c .before .before .before .before .before .before .before .before .before .before .before .before .before .before .before .before .before .before .before .before .before .before .before .before .before .before .before .before .before .before .before .before .before .before .before .before .before .before .before .read .ensures) (c .before .before .before .before .before .before .before .before .before .before .before .before .before .before .before .before .before .before .before .before .before .before .before .before .before .before .before .before .before .before .before .before .before .before .before .before .before .reading2 .given .1) in let S = found-chip _ _ _ _ _ _ _ (c .before .before .before .before .before .before .before .before .before .before .before .before .before .before .before .before .before .before .before .before .before .before .before .before .prepare .ensures) _ (c .before .before .before .before .before .before .before .before .before .before .before .before .before .before .before .before .before .before .before .before .before .before .s .given .1) in record { limits = tables-limits _ _ _ h; pins = tables-pins _ _ _ h; shaped = S; cones = c .before .before .before .before .before .before .before .before .before .before .before .before .reach-masks .ensures }
 
 same-length : tie.Need-same-length
 same-length c = search needs

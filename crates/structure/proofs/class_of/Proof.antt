@@ -20,7 +20,7 @@ enum-known-reading-2 c = search needs
 
 prepare-requires : tie.Need-prepare-requires
 prepare-requires c κs =
-    let k = c .before .before .before .before .before .before .before .before .before .before in
+    let k = c .before .before .before .before .before .before .before .before .before .before .before in
     let h = holds _ _ _ (k .before .before .before .read .ensures) (k .before .reading2 .given .1) in
     (tables-limits _ _ _ h, (tables-pins _ _ _ h, λ l b. getD-replicate 4160 l 0 0 b))
 
@@ -36,23 +36,23 @@ enum-known-s c = search needs
 returns-2 : tie.Need-returns-2
 returns-2 c =
     let p = c .before .before .before in
-    let k = p .before .before .before .before .before .before .before .before .before .before .before in
+    let k = p .before .before .before .before .before .before .before .before .before .before .before .before in
     let h = holds _ _ _ (k .before .before .before .read .ensures) (k .before .reading2 .given .1) in
-    refuses (opens-looped _ _ _ h _ (found-looped _ _ _ _ _ _ (p .prepare .ensures) _ (c .before .m .given .1)))
+    refuses (opens-looped _ _ _ h _ (found-looped _ _ _ _ _ _ _ (p .prepare .ensures) _ (c .before .m .given .1)))
 
 returns-3 : tie.Need-returns-3
 returns-3 c =
     let p = c .before .before .before in
-    let k = p .before .before .before .before .before .before .before .before .before .before .before in
+    let k = p .before .before .before .before .before .before .before .before .before .before .before .before in
     let h = holds _ _ _ (k .before .before .before .read .ensures) (k .before .reading2 .given .1) in
-    refuses (opens-deep _ _ _ h _ (found-deep _ _ _ _ _ _ (p .prepare .ensures) _ (c .before .y .given .1)))
+    refuses (opens-deep _ _ _ h _ (found-deep _ _ _ _ _ _ _ (p .prepare .ensures) _ (c .before .y .given .1)))
 
 returns-4 : tie.Need-returns-4
 returns-4 c =
     let p = c .before .before .before in
-    let k = p .before .before .before .before .before .before .before .before .before .before .before in
+    let k = p .before .before .before .before .before .before .before .before .before .before .before .before in
     let h = holds _ _ _ (k .before .before .before .read .ensures) (k .before .reading2 .given .1) in
-    reply-chip _ _ _ h _ _ _ _ _ (found-chip _ _ _ _ _ _ (p .prepare .ensures) _ (c .before .s .given .1))
+    reply-chip _ _ _ h _ _ _ _ _ _ (found-chip _ _ _ _ _ _ _ (p .prepare .ensures) _ (c .before .s .given .1))
 
 pub class-of-spec : {M : Type 1} → statement M
 class-of-spec =

@@ -1,11 +1,9 @@
-use mathlib.Core.Path.{refl}
+use mathlib.Core.Path.{sym, _∙_}
+use native.Mathlib.Omega.{arith}
 use borrow.Author.Needs.{needs}
 use lib.ListN.{getD-replicate}
-use Rattle.chip.specs.Netlist.{Netlist}
-use Rattle.chip.specs.Inner.Tables.{tabled}
 use Rattle.order.proofs.Order.{wired, order-free}
-use Rattle.structure.proofs.Evenness.{nets-own}
-use Rattle.structure.proofs.Preparing.{settled-loop, settled-done, depth-over, depth-of, nets-few, blocks-few, blocks-one, shaped}
+use Rattle.structure.proofs.Preparing.{settled-loop, settled-done, depth-over, depth-of, blocks-few, blocks-one, shaped}
 use Rattle.structure.proofs.prepare.Statement.{statement}
 use Rattle.structure.proofs.prepare.Tie as tie
 
@@ -41,8 +39,8 @@ returns c =
 enum-told : tie.Need-enum-told
 enum-told c = search needs
 
-join-blocks-requires : tie.Need-join-blocks-requires
-join-blocks-requires c κs =
+branches-requires : tie.Need-branches-requires
+branches-requires c κs =
     let t = c .before .before .before in
     let o = t .before .before in
     let f = o .before .before .before in
@@ -51,13 +49,26 @@ join-blocks-requires c κs =
     let F = f .first-pins .ensures (a .i) (a .o) (a .kinds .now) (a .nets .now) in
     (s .pre .0, (s .pre .1 .0, (F, settled-done _ _ _ (o .order-cells .ensures (a .o) (a .kinds .now) (a .counts .now) F) (t .enum-told .given .1))))
 
+join-blocks-requires : tie.Need-join-blocks-requires
+join-blocks-requires c κs =
+    let br = c .before .before .before .before in
+    let t = br .before .before .before .before in
+    let o = t .before .before in
+    let f = o .before .before .before in
+    let s = f .before .before in
+    let a = s .args in
+    let F = f .first-pins .ensures (a .i) (a .o) (a .kinds .now) (a .nets .now) in
+    let O = settled-done _ _ _ (o .order-cells .ensures (a .o) (a .kinds .now) (a .counts .now) F) (t .enum-told .given .1) in
+    (s .pre .0, (s .pre .1 .0, (F, (O, br .branches .ensures))))
+
 enum-known-z : tie.Need-enum-known-z
 enum-known-z c = search needs
 
 returns-2 : tie.Need-returns-2
 returns-2 c =
     let jb = c .before .before .before in
-    let t = jb .before .before .before .before in
+    let br = jb .before .before .before .before .before in
+    let t = br .before .before .before .before in
     let o = t .before .before in
     let f = o .before .before .before in
     let s = f .before .before in
@@ -71,35 +82,38 @@ enum-known-d c = search needs
 
 number-blocks-requires : tie.Need-number-blocks-requires
 number-blocks-requires c κs =
-    let dp = c .before .before .before in
+    let dp = c .before .before .before .before in
     let jb = dp .before .before in
     let D = depth-of _ _ _ _ (jb .join-blocks .ensures) (dp .d .given .1) in
-    let s = jb .before .before .before .before .before .before .before .before .before .before .before in
-    (s .pre .0, (s .pre .1 .0, D .lowest))
+    let br = jb .before .before .before .before .before in
+    let s = br .before .before .before .before .before .before .before .before .before .before .before in
+    (s .pre .0, (s .pre .1 .0, (D .lowest, br .branches .ensures)))
 
 lowest-uneven-requires : tie.Need-lowest-uneven-requires
 lowest-uneven-requires c κs =
-    let nb = c .before .before .before in
-    let dp = nb .before .before .before .before in
+    let nb = c .before .before .before .before in
+    let dp = nb .before .before .before .before .before in
     let jb = dp .before .before in
     let D = depth-of _ _ _ _ (jb .join-blocks .ensures) (dp .d .given .1) in
-    let t = jb .before .before .before .before in
+    let br = jb .before .before .before .before .before in
+    let t = br .before .before .before .before in
     let o = t .before .before in
     let f = o .before .before .before in
     let s = f .before .before in
     let a = s .args in
     let F = f .first-pins .ensures (a .i) (a .o) (a .kinds .now) (a .nets .now) in
     let O = settled-done _ _ _ (o .order-cells .ensures (a .o) (a .kinds .now) (a .counts .now) F) (t .enum-told .given .1) in
-    let N : Netlist = tabled (a .i) (a .c) (a .o) (a .kinds .now) (a .counts .now) (a .nets .now) in
-    (s .pre .0, (s .pre .1 .0, (F, (O, ((D .shallow, D .depth .within), (nets-few N (a .nets .now) (s .pre .0) (λ p. refl), (nets-own N (a .nets .now) (λ p. refl), λ l h. getD-replicate 4160 l 0 0 h)))))))
+    let T = br .branches .ensures in
+    (s .pre .0, (s .pre .1 .0, (F, (O, ((D .shallow, D .depth .within), ((λ x p b. omega (arith, T p (b .pin), b .names, b .input, s .pre .0 .few-inputs)), ((λ x y p q b d e. sym (b .names) ∙ sym (T p (b .pin)) ∙ e ∙ T q (d .pin) ∙ d .names), ((λ l h. getD-replicate 4160 l 0 0 h), T))))))))
 
 lowest-uneven-requires-2 : tie.Need-lowest-uneven-requires-2
 lowest-uneven-requires-2 c κs =
-    let nb = c .before .before .before .before .before .before .before .before in
-    let dp = nb .before .before .before .before in
+    let nb = c .before .before .before .before .before .before .before .before .before .before in
+    let dp = nb .before .before .before .before .before in
     let jb = dp .before .before in
     let D = depth-of _ _ _ _ (jb .join-blocks .ensures) (dp .d .given .1) in
-    let t = jb .before .before .before .before in
+    let br = jb .before .before .before .before .before in
+    let t = br .before .before .before .before in
     let o = t .before .before in
     let f = o .before .before .before in
     let s = f .before .before in
@@ -107,7 +121,7 @@ lowest-uneven-requires-2 c κs =
     let F = f .first-pins .ensures (a .i) (a .o) (a .kinds .now) (a .nets .now) in
     let O = settled-done _ _ _ (o .order-cells .ensures (a .o) (a .kinds .now) (a .counts .now) F) (t .enum-told .given .1) in
     let n = nb .number-blocks .ensures in
-    (s .pre .0, (s .pre .1 .0, (F, (O, ((D .shallow, D .depth .within), (blocks-few _ (s .pre .0) _ (D .lowest) _ _ n, (blocks-one _ (s .pre .0) _ (D .lowest) _ _ n, s .pre .1 .1)))))))
+    (s .pre .0, (s .pre .1 .0, (F, (O, ((D .shallow, D .depth .within), (blocks-few _ (s .pre .0) _ (D .lowest) _ _ n, (blocks-one _ (s .pre .0) _ (D .lowest) _ _ n, (s .pre .1 .1, br .branches .ensures))))))))
 
 classify-requires : tie.Need-classify-requires
 classify-requires c κs = search needs
@@ -115,19 +129,20 @@ classify-requires c κs = search needs
 returns-3 : tie.Need-returns-3
 returns-3 c =
     let u2 = c .before in
-    let u = u2 .before .before .before .before .before in
-    let nb = u .before .before .before .before in
-    let dp = nb .before .before .before .before in
+    let u = u2 .before .before .before .before .before .before in
+    let nb = u .before .before .before .before .before in
+    let dp = nb .before .before .before .before .before in
     let jb = dp .before .before in
     let D = depth-of _ _ _ _ (jb .join-blocks .ensures) (dp .d .given .1) in
-    let t = jb .before .before .before .before in
+    let br = jb .before .before .before .before .before in
+    let t = br .before .before .before .before in
     let o = t .before .before in
     let f = o .before .before .before in
     let s = f .before .before in
     let a = s .args in
     let F = f .first-pins .ensures (a .i) (a .o) (a .kinds .now) (a .nets .now) in
     let O = settled-done _ _ _ (o .order-cells .ensures (a .o) (a .kinds .now) (a .counts .now) F) (t .enum-told .given .1) in
-    shaped _ (s .pre .0) _ (D .lowest) _ _ (nb .number-blocks .ensures) (a .nets .now) (λ p. refl) _ _ _ _ _ _ _ _ F O D (u .lowest-uneven .ensures) (u2 .lowest-uneven2 .ensures) (c .classify .ensures)
+    shaped _ (s .pre .0) _ (D .lowest) _ _ (nb .number-blocks .ensures) _ (br .branches .ensures) _ _ _ _ _ _ _ _ F O D (u .lowest-uneven .ensures) (u2 .lowest-uneven2 .ensures) (c .classify .ensures)
 
 pub prepare-spec : {M : Type 1} → statement M
 prepare-spec =
@@ -139,6 +154,7 @@ prepare-spec =
     lowest-on-loop-requires
     returns
     enum-told
+    branches-requires
     join-blocks-requires
     enum-known-z
     returns-2

@@ -4,7 +4,7 @@ use mathlib.Core.Path.{_≡_}
 use mathlib.Core.List.{List}
 use lib.ListN.{getD}
 use Rattle.chip.specs.Netlist.{Netlist}
-use Rattle.chip.specs.Inner.Tables.{FirstPins}
+use Rattle.chip.specs.Inner.Tables.{FirstPins, BranchTable}
 use Rattle.chip.specs.Class.{LoopFree, Branch, Depth, Lowest, Prepared, blocks}
 use Rattle.chip.specs.Clocks.{BlockReaches}
 use Rattle.order.specs.Order.{Ordered}
@@ -57,10 +57,11 @@ pub record Classified (inputs by-block by-input k : ℕ) : Type 0 where
   pub three : inputs ≤ by-block → inputs ≤ by-input → k ≡ 3
 
 -- a chip that is prepared: its tables, its depth, class and number of blocks, and where the class is 1 the place of refusal 11
-pub record Shaped (N : Netlist) (firsts order block reached : List ℕ) (s : Shape) : Type 0 where
+pub record Shaped (N : Netlist) (firsts order branches block reached : List ℕ) (s : Shape) : Type 0 where
   pub low : ℕ → ℕ
   pub first-pins : FirstPins N firsts
   pub ordered : Ordered N order
+  pub branch-table : BranchTable N branches
   pub prepared : Prepared N (s .depth) low (s .class)
   pub shallow : s .depth ≤ 255
   pub count : s .blocks ≡ blocks N low .count
@@ -68,7 +69,7 @@ pub record Shaped (N : Netlist) (firsts order block reached : List ℕ) (s : Sha
   pub reach-table : (b : ℕ) → b < s .blocks → Mask (N .outs) (getD reached b 0) (λ z. BlockReaches N (blocks N low) z b)
   pub place : s .class ≡ 1 → When11 N (s .place)
 
-abbrev pub FoundIs : Netlist → List ℕ → List ℕ → List ℕ → List ℕ → Found → Type 0
-FoundIs N firsts order block reached (Looped n) = LowestLoop N n
-FoundIs N firsts order block reached (TooDeep z) = LoopFree N × LowestDeep N z
-FoundIs N firsts order block reached (Chip s) = Shaped N firsts order block reached s
+abbrev pub FoundIs : Netlist → List ℕ → List ℕ → List ℕ → List ℕ → List ℕ → Found → Type 0
+FoundIs N firsts order branches block reached (Looped n) = LowestLoop N n
+FoundIs N firsts order branches block reached (TooDeep z) = LoopFree N × LowestDeep N z
+FoundIs N firsts order branches block reached (Chip s) = Shaped N firsts order branches block reached s

@@ -1,11 +1,12 @@
-use Prim.Native.Nat.{ℕ, _+_, _-_, _<_}
-use mathlib.Core.Path.{_≡_, sym}
+use Prim.Native.Nat.{_<_, _-_}
+use mathlib.Core.Path.{refl, ap, _∙_}
 use native.Mathlib.Omega.{arith}
-use lib.ListN.{getD}
 use borrow.Author.Needs.{needs}
+use lib.ListN.{getD}
 use Rattle.chip.specs.Inner.Tables.{tabled}
-use Rattle.chip.proofs.Basics.{net-input, net-cell}
-use Rattle.transform.specs.Inner.Put.{tabledBlocks}
+use Rattle.chip.specs.Class.{blocks}
+use Rattle.chip.specs.Transformed.{netFor}
+use Rattle.transform.proofs.New.{branch-block, pad-net, cell-net}
 use Rattle.transform.proofs.new_net.Statement.{statement}
 use Rattle.transform.proofs.new_net.Tie as tie
 
@@ -18,35 +19,69 @@ element-copy-out-wide c = search needs
 wide-requires : tie.Need-wide-requires
 wide-requires c κs = search needs
 
+mul-wide-2 : tie.Need-mul-wide-2
+mul-wide-2 c = search needs
+
+element-copy-out-wide-2 : tie.Need-element-copy-out-wide-2
+element-copy-out-wide-2 c = search needs
+
+wide-requires-2 : tie.Need-wide-requires-2
+wide-requires-2 c κs = search needs
+
+mul-wide-3 : tie.Need-mul-wide-3
+mul-wide-3 c = search needs
+
+element-copy-out-wide-3 : tie.Need-element-copy-out-wide-3
+element-copy-out-wide-3 c = search needs
+
+wide-requires-3 : tie.Need-wide-requires-3
+wide-requires-3 c κs = search needs
+
+net-for-requires : tie.Need-net-for-requires
+net-for-requires c κs =
+    let s = c .before .before .before .before .before .before .before .before .before in
+    (s .pre .0, (omega (arith, c .wide3 .ensures, s .pre .1 .2 (omega (arith, c .before .before .before .wide2 .ensures, c .before .before .if1 .taken))), omega (arith, c .before .before .before .before .before .wide .ensures, s .pre .1 .1)))
+
+returns : tie.Need-returns
+returns c o kinds counts low m h K =
+    let s = c .before .before .before .before .before .before .before .before .before .before in
+    let a = s .args in
+    let N = tabled (a .i) (a .c) o kinds counts (a .nets .now) in
+    let i : getD (a .branches .now) (a .p) 0 < a .i = omega (arith, c .before .before .before .before .wide2 .ensures, c .before .before .before .if1 .taken) in
+    let (e, _) = branch-block N low (a .b) (a .branches .now) (a .block .now) (a .lowest .now) (a .marks .now) (a .numbers .now) m K (a .p) h i in
+    c .net-for .ensures N low (a .branches .now) (a .block .now) (a .lowest .now) m refl refl K
+    ∙ ap (λ k. netFor N (blocks N low) k (c .before .before .before .before .before .before .wide .result)) (c .before .wide3 .ensures ∙ e)
+    ∙ ap (netFor N (blocks N low) _) (c .before .before .before .before .before .before .wide .ensures)
+
 mul-result : tie.Need-mul-result
 mul-result c = search needs
 
 element-copy-out-result : tie.Need-element-copy-out-result
 element-copy-out-result c = search needs
 
-returns : tie.Need-returns
-returns c =
-    let a = c .before .before .before .before .args in
-    let h : getD (a .nets .now) (a .p) 0 < a .i = omega (arith, c .before .before .wide .ensures, c .before .if1 .taken) in
-    λ c′ o kinds counts. sym (net-input (tabled (a .i) c′ o kinds counts (a .nets .now)) (tabledBlocks (a .b) (a .block .now)) (a .p) h)
-
--- the new net is low
-low : (c : tie.Else1) → c .before .before .before .args .b + (c .before .wide .result - c .before .before .before .args .i) < 1088
-low c = let s = c .before .before .before in omega (arith, s .pre .2 (s .args .p), c .before .wide .ensures)
+returns-2 : tie.Need-returns-2
+returns-2 c o kinds counts low m h K =
+    let s = c .before .before .before .before .before .before .before .before .before in
+    let a = s .args in
+    let N = tabled (a .i) (a .c) o kinds counts (a .nets .now) in
+    let w = c .before .before .before .before .before .wide .ensures in
+    ap (λ n. getD (a .lowest .now) n 0) w
+    ∙ pad-net N low (a .b) (a .branches .now) (a .block .now) (a .lowest .now) (a .marks .now) (a .numbers .now) m K (a .p) h (omega (arith, c .before .before .before .wide2 .ensures, c .before .before .if1 .left)) (omega (arith, w, c .before .if2 .taken))
 
 add-result : tie.Need-add-result
-add-result c = omega (arith, low c)
+add-result c = search needs
 
 cast-result : tie.Need-cast-result
-cast-result c = omega (arith, low c)
+cast-result c = search needs
 
-returns-2 : tie.Need-returns-2
-returns-2 c =
-    let a = c .before .before .before .args in
-    let x : ℕ = getD (a .nets .now) (a .p) 0 in
-    let e : c .before .wide .result ≡ x = c .before .wide .ensures in
-    let q : x ≡ a .i + (x - a .i) = omega (arith, c .if1 .left) in
-    λ c′ o kinds counts. rw e (sym (net-cell (tabled (a .i) c′ o kinds counts (a .nets .now)) (tabledBlocks (a .b) (a .block .now)) (a .p) (x - a .i) q))
+returns-3 : tie.Need-returns-3
+returns-3 c o kinds counts low m h K =
+    let s = c .before .before .before .before .before .before .before .before in
+    let a = s .args in
+    let N = tabled (a .i) (a .c) o kinds counts (a .nets .now) in
+    let w = c .before .before .before .before .wide .ensures in
+    let q = cell-net N low (a .b) (a .branches .now) (a .block .now) (a .lowest .now) (a .marks .now) (a .numbers .now) m K (a .p) h (omega (arith, c .before .before .wide2 .ensures, c .before .if1 .left)) (getD (a .nets .now) (a .p) 0 - a .i) (omega (arith, w, c .if2 .left)) in
+    omega (arith, q, w)
 
 pub new-net-spec : {M : Type 1} → statement M
 new-net-spec =
@@ -55,9 +90,17 @@ new-net-spec =
     mul-wide
     element-copy-out-wide
     wide-requires
+    mul-wide-2
+    element-copy-out-wide-2
+    wide-requires-2
+    mul-wide-3
+    element-copy-out-wide-3
+    wide-requires-3
+    net-for-requires
+    returns
     mul-result
     element-copy-out-result
-    returns
+    returns-2
     add-result
     cast-result
-    returns-2)
+    returns-3)

@@ -1,4 +1,3 @@
-use native.Mathlib.Omega.{arith}
 use borrow.Author.Needs.{needs}
 use Rattle.netlist.proofs.Use.{holds}
 use Rattle.structure.proofs.Opening.{opens-unread, tables-limits, tables-pins}
@@ -21,7 +20,7 @@ enum-known-reading-2 c = search needs
 transform-tables-requires : tie.Need-transform-tables-requires
 transform-tables-requires c κs =
     let h = holds _ _ _ (c .before .before .before .before .before .before .before .before .before .before .read .ensures) (c .before .before .before .before .before .before .before .before .reading2 .given .1) in
-    (tables-limits _ _ _ h, (tables-pins _ _ _ h, λ p. omega (arith, h .net-high p, h .cells-high)))
+    (tables-limits _ _ _ h, tables-pins _ _ _ h)
 
 same-length : tie.Need-same-length
 same-length c = search needs

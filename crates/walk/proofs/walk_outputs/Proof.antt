@@ -1,128 +1,15 @@
-use Prim.Native.Nat.{_*_, _-_, _≤_}
-use mathlib.Core.Path.{_≡_, sym, _∙_}
-use mathlib.Core.Logic.{⊎-elim}
-use mathlib.Core.Bool.{true, false}
-use native.Mathlib.Omega.{arith}
 use borrow.Author.Needs.{needs}
-use Rattle.chip.specs.Inner.Tables.{tabled}
-use Rattle.walk.specs.Walk.{outOf}
-use Rattle.walk.proofs.Walking.{AllWalked, none-start, ready-few, ready-laid, step-few, step-skip, step-never, step-hit}
 use Rattle.walk.proofs.walk_outputs.Statement.{statement}
 use Rattle.walk.proofs.walk_outputs.Tie as tie
 
-abbrev Inv-loop : tie.InvT-loop
-Inv-loop i c o n s fault outs kinds counts firsts nets order block reached cone tries₀ z₀ tries z =
-    (z ≤ o) × (tries ≤ 65536 * z) × AllWalked (tabled i c o kinds counts nets) fault outs reached z tries
+decided-requires : tie.Need-decided-requires
+decided-requires c κs = let R = c .before .pre .0 in (R .limits, (R .pins, (R .shaped .first-pins, (R .shaped .ordered, R .shaped .branch-table))))
 
-abbrev μ-loop : tie.MeasureT-loop
-μ-loop i c o n s fault outs kinds counts firsts nets order block reached cone tries₀ z₀ tries z = o - z
+try-outputs-requires : tie.Need-try-outputs-requires
+try-outputs-requires c κs = search needs
 
--- the output at hand is in the word
-it-is : (c : tie.Then1 Inv-loop μ-loop) → outOf (c .before .before .before .before .args .outs) (c .before .before .before .loop .z) ≡ true
-it-is c = sym (c .before .has-bit .ensures) ∙ c .if1 .taken
-
-loop-holds : tie.Need-loop-holds Inv-loop μ-loop
-loop-holds c = (omega arith, omega arith, λ low L. none-start _ _)
-
-has-bit-requires : tie.Need-has-bit-requires Inv-loop μ-loop
-has-bit-requires c κs = omega (arith, c .before .before .pre .0 .limits .few-outputs)
-
-try-output-requires : tie.Need-try-output-requires Inv-loop μ-loop
-try-output-requires c κs =
-    let R = c .before .before .before .before .pre .0 in
-    let W = c .before .before .before .before .pre .1 in
-    let l = c .before .before .before .loop in (
-      R .limits,
-      (
-        R .pins,
-        (
-          R .shaped .first-pins,
-          (
-            R .shaped .ordered,
-            (
-              R .cones,
-              (
-                (ready-few _ _ _ _ _ _ _ _ R, (R .shaped .low, ready-laid _ _ _ _ _ _ _ _ R (W .even) (R .shaped .low) (R .shaped .prepared .lowest))),
-                (c .before .before .loop-test .taken, W .narrow (l .z) (c .before .before .loop-test .taken) (it-is c)),
-              ),
-            ),
-          ),
-        ),
-      ),
-    )
-
-enum-known-m : tie.Need-enum-known-m Inv-loop μ-loop
-enum-known-m c = search needs
-
-add-t22 : tie.Need-add-t22 Inv-loop μ-loop
-add-t22 c = omega (arith, step-few _ _ _ _ _ _ _ _ (c .before .before .before .before .before .before .before .before .pre .0) _ _ (c .before .before .before .before .before .before .before .before .pre .1) _ _ _ (c .before .before .before .before .before .before .loop-test .taken) (it-is (c .before .before .before .before)) (c .before .before .before .try-output .ensures) (c .before .m .given .1))
-
-add-t23 : tie.Need-add-t23 Inv-loop μ-loop
-add-t23 c = omega (arith, c .before .before .before .before .before .before .before .before .pre .0 .limits .few-outputs, step-few _ _ _ _ _ _ _ _ (c .before .before .before .before .before .before .before .before .pre .0) _ _ (c .before .before .before .before .before .before .before .before .pre .1) _ _ _ (c .before .before .before .before .before .before .loop-test .taken) (it-is (c .before .before .before .before)) (c .before .before .before .try-output .ensures) (c .before .m .given .1))
-
-returns : tie.Need-returns Inv-loop μ-loop
-returns c = step-hit _ _ _ _ _ _ _ _ (c .before .before .before .before .before .before .before .before .pre .0) _ _ (c .before .before .before .before .before .before .before .before .pre .1) _ _ _ _ (c .before .before .before .before .before .before .loop-test .taken) (it-is (c .before .before .before .before)) (c .before .before .before .try-output .ensures) (c .before .m .given .1) (c .before .before .before .before .before .before .before .loop .inv .2)
-
-enum-told : tie.Need-enum-told Inv-loop μ-loop
-enum-told c = search needs
-
-pattern-count-requires : tie.Need-pattern-count-requires Inv-loop μ-loop
-pattern-count-requires c κs =
-    let R = c .before .before .before .before .before .before .before .pre .0 in
-    (ready-few _ _ _ _ _ _ _ _ R, omega (arith, R .limits .few-outputs), c .before .before .before .before .before .before .before .pre .1 .narrow (c .before .before .before .before .before .before .loop .z) (c .before .before .before .before .before .loop-test .taken) (it-is (c .before .before .before)))
-
-add-tries : tie.Need-add-tries Inv-loop μ-loop
-add-tries c = omega (arith, c .pattern-count .ensures .1, c .before .before .before .before .before .before .before .before .pre .0 .limits .few-outputs)
-
-add-z : tie.Need-add-z Inv-loop μ-loop
-add-z c = search needs
-
-loop-less : tie.Need-loop-less Inv-loop μ-loop
-loop-less c = search needs
-
-loop-again : tie.Need-loop-again Inv-loop μ-loop
-loop-again c =
-    let l = c .before .before .before .loop in
-    let R = c .before .before .before .before .pre .0 in
-    let W = c .before .before .before .before .pre .1 in
-    ⊎-elim
-    (λ w.
-    let e : outOf (c .before .before .before .before .args .outs) (l .z) ≡ true = sym (c .before .has-bit .ensures) ∙ w .0 .taken in (
-      omega arith,
-      omega (arith, w .5, w .4 .ensures .1),
-      rw (w .5) (step-never _ _ _ _ _ _ _ _ R _ _ W (l .z) (l .tries) _ _ e (w .4 .ensures .0) (w .1 .ensures) (w .3 .given .1) (l .inv .2)),
-    ))
-    (λ w.
-    let e : outOf (c .before .before .before .before .args .outs) (l .z) ≡ false = sym (c .before .has-bit .ensures) ∙ w .0 .left in (
-      omega arith,
-      omega (arith, w .1),
-      rw (w .1) (step-skip _ _ _ _ _ _ _ _ R _ _ W (l .z) (l .tries) e (l .inv .2)),
-    ))
-    (c .if1 .came)
-
-returns-2 : tie.Need-returns-2 Inv-loop μ-loop
-returns-2 c low L =
-    let l = c .before .loop in
-    let q : l .z ≡ c .before .before .args .o = omega arith in
-    rw q at (l .inv .2 low L)
+returns : tie.Need-returns
+returns c low L = c .try-outputs .ensures low (c .before .before .before .before .args .fault) L (c .before .before .decided2 .ensures)
 
 pub walk-outputs-spec : {M : Type 1} → statement M
-walk-outputs-spec =
-    tie.close
-    (tie.spec
-    Inv-loop
-    μ-loop
-    loop-holds
-    has-bit-requires
-    try-output-requires
-    enum-known-m
-    add-t22
-    add-t23
-    returns
-    enum-told
-    pattern-count-requires
-    add-tries
-    add-z
-    loop-less
-    loop-again
-    returns-2)
+walk-outputs-spec = tie.close (tie.spec decided-requires try-outputs-requires returns)

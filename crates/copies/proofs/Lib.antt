@@ -1,0 +1,4 @@
+pub mod Marks
+pub mod Copied
+pub mod Counts
+pub mod Firsts

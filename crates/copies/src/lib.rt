@@ -1,0 +1,256 @@
+// The copies of pad buffers in the transformed circuit: each block that is not its input's lowest has its own of those on its way.
+ghost use mathlib.Core.Path.{_≡_};
+ghost use Prim.Native.Nat.{ℕ, _+_, _≤_, _<_};
+ghost use lib.ListN.{length, getD};
+ghost use Rattle.chip.specs.Netlist.{sumBelow, allPins, InLimits};
+ghost use Rattle.chip.specs.Pads.{branchOf};
+ghost use Rattle.chip.specs.Inner.Tables.{tabled, FirstPins, BranchTable};
+ghost use Rattle.chip.specs.Class.{LoopFree, Lowest, blocks};
+ghost use Rattle.copies.specs.Inner.Marks.{WayMarked, FlatMarks, FirstBlocks, NextBlock, LowestBlocks, Copies};
+ghost use Rattle.blocks.specs.Labels.{BlockTable, Numbered};
+use chip::wide;
+use chip::wide8;
+
+// Marks the pad buffers on the way to branch p, that of cell 0 at place `base`: steps back from its net to the input, at most c.
+fn mark_way(
+    i: usize,
+    c: usize,
+    o: usize,
+    kinds: &[u8; 1024],
+    counts: &[u8; 1024],
+    firsts: &[u16; 1025],
+    nets: &[u16; 4096],
+    p: usize,
+    base: usize,
+    marks: &mut [u8],
+)
+    requires { ⌜ InLimits (tabled i c o (now kinds) (now counts) (now nets)) ⌝ }
+    requires { ⌜ LoopFree (tabled i c o (now kinds) (now counts) (now nets)) ⌝ }
+    requires { ⌜ FirstPins (tabled i c o (now kinds) (now counts) (now nets)) (now firsts) ⌝ }
+    requires { ⌜ p < allPins (tabled i c o (now kinds) (now counts) (now nets)) ⌝ }
+    requires { ⌜ branchOf (tabled i c o (now kinds) (now counts) (now nets)) p < i ⌝ }
+    requires { ⌜ (base + c ≤ length (now marks)) × (length (now marks) ≤ 65536) ⌝ }
+    ensures { λ _. ⌜ WayMarked (tabled i c o (now (kinds .entry)) (now (counts .entry)) (now (nets .entry))) p base (now (marks .entry)) (now (marks .exit)) ⌝ }
+{
+    let mut net = wide(nets[p]);
+    let mut k = 0;
+    while k < c {
+        if net < i {
+            return;
+        }
+        let j = net - i;
+        marks[base + j] = 1;
+        net = wide(nets[wide(firsts[j])]);
+        k += 1;
+    }
+}
+
+// Marks the pad buffers on the way to pin p, if it is a branch of a block that is not its input's lowest.
+fn mark_pin(
+    i: usize,
+    c: usize,
+    o: usize,
+    kinds: &[u8; 1024],
+    counts: &[u8; 1024],
+    firsts: &[u16; 1025],
+    nets: &[u16; 4096],
+    branches: &[u16; 4096],
+    block: &[u16; 4096],
+    lowest: &[u16; 64],
+    p: usize,
+    marks: &mut [u8],
+)
+    requires { ⌜ InLimits (tabled i c o (now kinds) (now counts) (now nets)) ⌝ }
+    requires { ⌜ LoopFree (tabled i c o (now kinds) (now counts) (now nets)) ⌝ }
+    requires { ⌜ FirstPins (tabled i c o (now kinds) (now counts) (now nets)) (now firsts) ⌝ }
+    requires { ⌜ BranchTable (tabled i c o (now kinds) (now counts) (now nets)) (now branches) ⌝ }
+    requires { ⌜ p < allPins (tabled i c o (now kinds) (now counts) (now nets)) ⌝ }
+    requires { ⌜ (branchOf (tabled i c o (now kinds) (now counts) (now nets)) p < i → getD (now block) p 0 < 64) ⌝ }
+    requires { ⌜ length (now marks) ≡ 65536 ⌝ }
+    ensures { λ _. ⌜ (length (now (marks .exit)) ≡ 65536) × ((low : ℕ → ℕ) → BlockTable (tabled i c o (now (kinds .entry)) (now (counts .entry)) (now (nets .entry))) low (now (block .entry))
+        → FirstBlocks (tabled i c o (now (kinds .entry)) (now (counts .entry)) (now (nets .entry))) (blocks (tabled i c o (now (kinds .entry)) (now (counts .entry)) (now (nets .entry))) low) (now (lowest .entry))
+        → FlatMarks (tabled i c o (now (kinds .entry)) (now (counts .entry)) (now (nets .entry))) (blocks (tabled i c o (now (kinds .entry)) (now (counts .entry)) (now (nets .entry))) low) p (now (marks .entry))
+        → FlatMarks (tabled i c o (now (kinds .entry)) (now (counts .entry)) (now (nets .entry))) (blocks (tabled i c o (now (kinds .entry)) (now (counts .entry)) (now (nets .entry))) low) (p + 1) (now (marks .exit))) ⌝ }
+{
+    let x = wide(branches[p]);
+    if i <= x {
+        return;
+    }
+    let b = wide(block[p]);
+    if wide(lowest[x]) == b {
+        return;
+    }
+    mark_way(i, c, o, kinds, counts, firsts, nets, p, 1024 * b, marks);
+}
+
+// Marks the cells of which each block has copies: place 1024 * b + j stands for block b and cell j.
+fn mark_copies(
+    i: usize,
+    c: usize,
+    o: usize,
+    n: usize,
+    kinds: &[u8; 1024],
+    counts: &[u8; 1024],
+    firsts: &[u16; 1025],
+    nets: &[u16; 4096],
+    branches: &[u16; 4096],
+    block: &[u16; 4096],
+    lowest: &[u16; 64],
+    marks: &mut [u8],
+)
+    requires { ⌜ InLimits (tabled i c o (now kinds) (now counts) (now nets)) ⌝ }
+    requires { ⌜ LoopFree (tabled i c o (now kinds) (now counts) (now nets)) ⌝ }
+    requires { ⌜ FirstPins (tabled i c o (now kinds) (now counts) (now nets)) (now firsts) ⌝ }
+    requires { ⌜ BranchTable (tabled i c o (now kinds) (now counts) (now nets)) (now branches) ⌝ }
+    requires { ⌜ n ≡ allPins (tabled i c o (now kinds) (now counts) (now nets)) ⌝ }
+    requires { ⌜ ((p : ℕ) → p < n → branchOf (tabled i c o (now kinds) (now counts) (now nets)) p < i → getD (now block) p 0 < 64) ⌝ }
+    requires { ⌜ length (now marks) ≡ 65536 ⌝ }
+    requires { ⌜ ((l : ℕ) → getD (now marks) l 0 ≡ 0) ⌝ }
+    ensures { λ _. ⌜ ((low : ℕ → ℕ) → BlockTable (tabled i c o (now (kinds .entry)) (now (counts .entry)) (now (nets .entry))) low (now (block .entry))
+        → FirstBlocks (tabled i c o (now (kinds .entry)) (now (counts .entry)) (now (nets .entry))) (blocks (tabled i c o (now (kinds .entry)) (now (counts .entry)) (now (nets .entry))) low) (now (lowest .entry))
+        → FlatMarks (tabled i c o (now (kinds .entry)) (now (counts .entry)) (now (nets .entry))) (blocks (tabled i c o (now (kinds .entry)) (now (counts .entry)) (now (nets .entry))) low) n (now (marks .exit))) ⌝ }
+{
+    let mut p = 0;
+    while p < n {
+        mark_pin(
+            i,
+            c,
+            o,
+            kinds,
+            counts,
+            firsts,
+            nets,
+            branches,
+            block,
+            lowest,
+            p,
+            marks,
+        );
+        p += 1;
+    }
+}
+
+// The number after r and the block of pin p, if it is a branch of input x.
+fn after_pin(branches: &[u16; 4096], block: &[u16; 4096], x: usize, r: usize, p: usize) -> usize
+    requires { ⌜ (p < 4096) × (r ≤ 65) × (getD (now branches) p 0 ≡ x → getD (now block) p 0 < 64) ⌝ }
+    ensures { λ s. ⌜ (s ≤ 65) × ((at : ℕ) → NextBlock (now (branches .entry)) (now (block .entry)) x at p r → NextBlock (now (branches .entry)) (now (block .entry)) x at (p + 1) s) ⌝ }
+{
+    if wide(branches[p]) != x {
+        return r;
+    }
+    let b = wide(block[p]);
+    if b < r {
+        return r;
+    }
+    b + 1
+}
+
+// The number after block `at` and all blocks of branches of input x.
+fn next_block(n: usize, branches: &[u16; 4096], block: &[u16; 4096], x: usize, at: usize) -> usize
+    requires { ⌜ (n ≤ 4096) × (at ≤ 64) × ((p : ℕ) → p < n → getD (now branches) p 0 ≡ x → getD (now block) p 0 < 64) ⌝ }
+    ensures { λ r. ⌜ NextBlock (now (branches .entry)) (now (block .entry)) x at n r ⌝ }
+{
+    let mut r = at + 1;
+    let mut p = 0;
+    while p < n {
+        r = after_pin(branches, block, x, r, p);
+        p += 1;
+    }
+    r
+}
+
+// The lowest block of each input.
+fn lowest_blocks(
+    i: usize,
+    c: usize,
+    o: usize,
+    n: usize,
+    kinds: &[u8; 1024],
+    counts: &[u8; 1024],
+    nets: &[u16; 4096],
+    branches: &[u16; 4096],
+    block: &[u16; 4096],
+    table: &mut [u16],
+)
+    requires { ⌜ InLimits (tabled i c o (now kinds) (now counts) (now nets)) ⌝ }
+    requires { ⌜ n ≡ allPins (tabled i c o (now kinds) (now counts) (now nets)) ⌝ }
+    requires { ⌜ BranchTable (tabled i c o (now kinds) (now counts) (now nets)) (now branches) ⌝ }
+    requires { ⌜ length (now table) ≡ 64 ⌝ }
+    requires { ⌜ LowestBlocks (tabled i c o (now kinds) (now counts) (now nets)) (now block) ⌝ }
+    ensures { λ _. ⌜ ((low : ℕ → ℕ) → Lowest (tabled i c o (now (kinds .entry)) (now (counts .entry)) (now (nets .entry))) low
+        → BlockTable (tabled i c o (now (kinds .entry)) (now (counts .entry)) (now (nets .entry))) low (now (block .entry))
+        → FirstBlocks (tabled i c o (now (kinds .entry)) (now (counts .entry)) (now (nets .entry))) (blocks (tabled i c o (now (kinds .entry)) (now (counts .entry)) (now (nets .entry))) low) (now (table .exit))) ⌝ }
+{
+    let mut at = 0;
+    let mut x = 0;
+    while x < i {
+        table[x] = at as u16;
+        at = next_block(n, branches, block, x, at);
+        x += 1;
+    }
+}
+
+// The number of marks before each of the first m places. Answers how many there are before place m.
+fn number_copies(m: usize, marks: &[u8], numbers: &mut [u16]) -> usize
+    requires { ⌜ (m ≤ 65536) × (length (now marks) ≡ 65536) × (length (now numbers) ≡ 65536) × ((l : ℕ) → getD (now marks) l 0 ≤ 1) ⌝ }
+    ensures { λ _. ⌜ length (now (numbers .exit)) ≡ 65536 ⌝ }
+    ensures { λ r. ⌜ (r ≤ m) × (r ≡ sumBelow (λ l. getD (now (marks .entry)) l 0) m) × ((k : ℕ) → k < m → getD (now (numbers .exit)) k 0 ≡ sumBelow (λ l. getD (now (marks .entry)) l 0) k) ⌝ }
+{
+    let mut count = 0;
+    let mut l = 0;
+    while l < m {
+        numbers[l] = count as u16;
+        count += wide8(marks[l]);
+        l += 1;
+    }
+    count
+}
+
+// The copies of a circuit of b blocks: the lowest block of each input, whether block k has a copy of cell j, at place 1024 * k + j, and its number. Answers how many copies there are.
+pub fn find_copies(
+    i: usize,
+    c: usize,
+    o: usize,
+    n: usize,
+    b: usize,
+    kinds: &[u8; 1024],
+    counts: &[u8; 1024],
+    firsts: &[u16; 1025],
+    nets: &[u16; 4096],
+    branches: &[u16; 4096],
+    block: &[u16; 4096],
+    lowest: &mut [u16; 64],
+    marks: &mut [u8],
+    numbers: &mut [u16],
+) -> usize
+    requires { ⌜ InLimits (tabled i c o (now kinds) (now counts) (now nets)) ⌝ }
+    requires { ⌜ LoopFree (tabled i c o (now kinds) (now counts) (now nets)) ⌝ }
+    requires { ⌜ FirstPins (tabled i c o (now kinds) (now counts) (now nets)) (now firsts) ⌝ }
+    requires { ⌜ BranchTable (tabled i c o (now kinds) (now counts) (now nets)) (now branches) ⌝ }
+    requires { ⌜ n ≡ allPins (tabled i c o (now kinds) (now counts) (now nets)) ⌝ }
+    requires { ⌜ LowestBlocks (tabled i c o (now kinds) (now counts) (now nets)) (now block) ⌝ }
+    requires { ⌜ (b ≤ 64) × (length (now lowest) ≡ 64) × (length (now marks) ≡ 65536) × (length (now numbers) ≡ 65536) ⌝ }
+    requires { ⌜ ((l : ℕ) → getD (now marks) l 0 ≡ 0) ⌝ }
+    ensures { λ r. ⌜ r ≤ 65536 ⌝ }
+    ensures { λ r. ⌜ ((low : ℕ → ℕ) → Lowest (tabled i c o (now (kinds .entry)) (now (counts .entry)) (now (nets .entry))) low
+        → Numbered (tabled i c o (now (kinds .entry)) (now (counts .entry)) (now (nets .entry))) low (now (block .entry)) b
+        → Copies (tabled i c o (now (kinds .entry)) (now (counts .entry)) (now (nets .entry))) (blocks (tabled i c o (now (kinds .entry)) (now (counts .entry)) (now (nets .entry))) low)
+        (now (lowest .exit)) (now (marks .exit)) (now (numbers .exit)) r) ⌝ }
+{
+    lowest_blocks(i, c, o, n, kinds, counts, nets, branches, block, lowest);
+    mark_copies(
+        i,
+        c,
+        o,
+        n,
+        kinds,
+        counts,
+        firsts,
+        nets,
+        branches,
+        block,
+        lowest,
+        marks,
+    );
+    number_copies(1024 * b, marks, numbers)
+}

@@ -1,0 +1,12 @@
+use borrow.Author.Tests.{eq-eqb, ne-eqb}
+use Rattle.faults.proofs.constant.Statement.{statement}
+use Rattle.faults.proofs.constant.Tie as tie
+
+returns : tie.Need-returns
+returns c b = eq-eqb _ 1 (c .if1 .taken)
+
+returns-2 : tie.Need-returns-2
+returns-2 c b = ne-eqb _ 1 (c .if1 .left)
+
+pub constant-spec : {M : Type 1} → statement M
+constant-spec = tie.close (tie.spec returns returns-2)
