@@ -15,19 +15,12 @@ use Rattle.chip.specs.Netlist.{Netlist, InLimits, firstPin, allPins, bit}
 use Rattle.chip.specs.Pads.{some, isBuf, fed, back, source, branchOf}
 use Rattle.chip.specs.Class.{LoopFree}
 use Rattle.chip.specs.Transformed.{onWay}
+use Rattle.chip.proofs.Bools.{and-no, or-no, or-yes}
 use Rattle.chip.proofs.Basics.{Ranked}
 use Rattle.chip.proofs.Loops.{ranked}
 use Rattle.chip.proofs.Pads.{fed-input, fed-buf, pad-buf, branch-in, back-source, back-named}
 use Rattle.chip.specs.Class.{Blocks}
 use Rattle.copies.specs.Inner.Marks.{WayMarked, flatWay, FlatMarks}
-
-or-no : (a b : Bool) → b ≡ false → (a || b) ≡ a
-or-no true b e = refl
-or-no false b e = e
-
-or-yes : (a b : Bool) → b ≡ true → (a || b) ≡ true
-or-yes true b e = refl
-or-yes false b e = e
 
 -- among the first k steps back from the net of pin p is the net of the cell that place l stands for, if cell 0 has place base
 abbrev pub hit : Netlist → ℕ → ℕ → ℕ → ℕ → Bool
@@ -39,12 +32,8 @@ pub record Walked (N : Netlist) (p base k : ℕ) (before : List ℕ) (net : ℕ)
   pub is : net ≡ back N k (N .net p)
   pub at : (l : ℕ) → getD after l 0 ≡ cond (hit N p base k l) 1 (getD before l 0)
 
-and-none : (a : Bool) → (a && false) ≡ false
-and-none true = refl
-and-none false = refl
-
 pub walk-start : (N : Netlist) (p base : ℕ) (marks : List ℕ) (net : ℕ) → net ≡ N .net p → Walked N p base 0 marks net marks
-walk-start N p base marks net e = record { long = refl; is = e; at = λ l. rw (and-none (leb base l)) refl }
+walk-start N p base marks net e = record { long = refl; is = e; at = λ l. rw (and-no (leb base l)) refl }
 
 pub walk-done : (N : Netlist) (p base k : ℕ) (before after : List ℕ) (net : ℕ) → k ≡ N .cells → Walked N p base k before net after → WayMarked N p base before after
 unfolding onWay

@@ -2,7 +2,7 @@
 use Prim.Native.Nat.{ℕ, suc, _+_, _≤_, _<_}
 use mathlib.Core.Path.{_≡_, refl, sym, ap, _∙_}
 use mathlib.Core.Logic.{inl, inr}
-use mathlib.Core.Bool.{Bool, true, false, cond, _&&_, _||_}
+use mathlib.Core.Bool.{Bool, true, false, cond, _&&_}
 use mathlib.Core.List.{List}
 use native.Mathlib.Omega.{arith}
 use native.Mathlib.Decide.{decLt, ℕ-discrete}
@@ -13,7 +13,7 @@ use lib.Seq.{getD-set-same, getD-set-other}
 use Rattle.chip.specs.Netlist.{Netlist, Sound, InLimits, firstPin, allPins}
 use Rattle.chip.specs.Pads.{some, back, isBuf, source, padBuffer, intoPad, branchOf}
 use Rattle.chip.specs.Inner.Tables.{BranchTable}
-use Rattle.chip.proofs.Bools.{clash}
+use Rattle.chip.proofs.Bools.{clash, or-no, or-yes}
 use Rattle.chip.proofs.Basics.{Ranked, net-cases, first-pin, pin-named}
 use Rattle.chip.proofs.Pads.{buf-is, pad-buf, source-yes, source-no, source-input, source-buf, buf-source, kind-buf}
 use Rattle.order.specs.Order.{Ordered}
@@ -133,14 +133,6 @@ pub record LeftOut (N : Netlist) (j : ℕ) (table : List ℕ) : Type 0 where
 pub left-start : (N : Netlist) (n : ℕ) (table : List ℕ) → n ≡ allPins N → Named N n table → LeftOut N 0 table
 left-start N n table q K = record { long = K .long; at = λ p l. K .at p (omega arith) }
 
-either-left : (a b : Bool) → b ≡ false → (a || b) ≡ a
-either-left true b e = refl
-either-left false b e = e
-
-either-right : (a b : Bool) → b ≡ true → (a || b) ≡ true
-either-right true b e = refl
-either-right false b e = e
-
 module _ (N : Netlist) (j : ℕ) (table : List ℕ) (K : LeftOut N j table) where
   test : ℕ → ℕ → Bool
   test p i = padBuffer N i && eqb (firstPin N i) p
@@ -154,7 +146,7 @@ module _ (N : Netlist) (j : ℕ) (table : List ℕ) (K : LeftOut N j table) wher
         at = λ p l.
             let none : padBuffer N j ≡ false = le-ltb (source N (N .inputs + j)) (N .inputs) (omega arith) in
             let f : test p j ≡ false = ap (λ t. t && eqb (firstPin N j) p) none in
-            K .at p l ∙ ap (λ t. cond t (N .inputs) (source N (N .net p))) (sym (either-left (some (test p) j) (test p j) f));
+            K .at p l ∙ ap (λ t. cond t (N .inputs) (source N (N .net p))) (sym (or-no (some (test p) j) (test p j) f));
       })
 
   pub left-more : source N (N .inputs + j) < N .inputs → firstPin N j < 4096 → LeftOut N (j + 1) (set table (firstPin N j) (N .inputs))
@@ -168,10 +160,10 @@ module _ (N : Netlist) (j : ℕ) (table : List ℕ) (K : LeftOut N j table) wher
           | yes q ↦
               let t : test p j ≡ true = ap (λ t. t && eqb (firstPin N j) p) pad ∙ eq-eqb (firstPin N j) p (sym q) in
               ap (λ (i : ℕ). getD (set table (firstPin N j) (N .inputs)) i 0) q ∙ getD-set-same table (firstPin N j) (N .inputs) 0 (omega (arith, K .long))
-              ∙ ap (λ t. cond t (N .inputs) (source N (N .net p))) (sym (either-right (some (test p) j) (test p j) t))
+              ∙ ap (λ t. cond t (N .inputs) (source N (N .net p))) (sym (or-yes (some (test p) j) (test p j) t))
           | no g ↦
               let f : test p j ≡ false = ap (λ t. t && eqb (firstPin N j) p) pad ∙ ne-eqb (firstPin N j) p (λ e. g (sym e)) in
-              getD-set-other table (firstPin N j) p (N .inputs) 0 g ∙ K .at p l ∙ ap (λ t. cond t (N .inputs) (source N (N .net p))) (sym (either-left (some (test p) j) (test p j) f))
+              getD-set-other table (firstPin N j) p (N .inputs) 0 g ∙ K .at p l ∙ ap (λ t. cond t (N .inputs) (source N (N .net p))) (sym (or-no (some (test p) j) (test p j) f))
         ];
       })
 

@@ -11,6 +11,7 @@ use Rattle.chip.specs.Netlist.{Netlist, InLimits, Sound, PinOf, sumBelow, first
 use Rattle.chip.specs.Pads.{some, isBuf, fed, back, source, padBuffer, intoPad, branchOf}
 use Rattle.chip.specs.Class.{Feeds, direct, via, LoopFree, Reach, here, on, Branch, Together, same, next, Lowest, Blocks, tally, leads, blocksOf, ownerOf, blocks}
 use Rattle.chip.specs.Transformed.{onWay, copied, copiesOf, copies, copyAt, copyBlock, copyCell, netFor, home, oldCell, openedNet, opened, flat, transformed}
+use Rattle.chip.proofs.Bools.{and-no}
 use Rattle.chip.proofs.Basics.{Ranked, sum-up, pin-in, first-pin, reach-in}
 use Rattle.chip.proofs.Blocks.{tally-same, right}
 use Rattle.chip.proofs.Pads.{buf-is, pad-cases, branch-is, out-outside}
@@ -21,10 +22,6 @@ use Rattle.writing.proofs.Alike.{first-alike, out-alike, pins-alike, turned}
 some-same : (s t : ℕ → Bool) (n : ℕ) → ((i : ℕ) → i < n → s i ≡ t i) → some s n ≡ some t n
 some-same s t zero h = refl
 some-same s t (suc n) h = rw (some-same s t n (λ i l. h i (omega arith)), h n (omega arith)) refl
-
-and-no : (a : Bool) → (a && false) ≡ false
-and-no true = refl
-and-no false = refl
 
 module _ (M N : Netlist) (A : Same M N) where
   pub pin-alike : {j p : ℕ} → PinOf M j p → PinOf N j p

@@ -6,7 +6,7 @@ use mathlib.Core.Bool.{Bool, true, false, cond}
 use mathlib.Core.List.{List}
 use native.Mathlib.Omega.{arith}
 use native.Mathlib.Decide.{decLt, ℕ-discrete}
-use borrow.Author.Tests.{lt-ltb, le-ltb}
+use borrow.Author.Tests.{lt-ltb, le-ltb, eq-eqb, ne-eqb}
 use lib.Dec.{ltb}
 use lib.ListN.{length, getD, set}
 use lib.Seq.{getD-set-same, getD-set-other}
@@ -14,20 +14,13 @@ use Rattle.chip.specs.Netlist.{Netlist, Sound, firstPin, outPin, allPins, bit}
 use Rattle.chip.specs.Pads.{source, intoPad, branchOf}
 use Rattle.chip.specs.Class.{Blocks, blocks}
 use Rattle.chip.specs.Transformed.{copied, copyAt, copyBlock, copyCell, netFor, home, openedNet, transformed}
+use Rattle.chip.proofs.Bools.{bit-is}
 use Rattle.chip.proofs.Basics.{Ranked, Counted}
 use Rattle.chip.proofs.Blocks.{counted}
 use Rattle.chip.proofs.Loops.{ranked}
 use Rattle.chip.proofs.Pads.{source-input, branch-is, branch-in, out-outside}
 use Rattle.chip.proofs.Copies.{copy-in, copy-block, copy-cell, copy-is, first-none, for-input, for-copy, for-cell, pin-old, pin-copy, pin-out, home-branch, home-pad, not-copied, three-pins}
 use Rattle.transform.specs.Inner.New.{Copied, Room, moved, OldNets, CopyNets}
-
-bit-true : (t : Bool) → bit t ≡ 1 → t ≡ true
-bit-true true e = refl
-bit-true false e = absurd (omega arith)
-
-bit-false : (t : Bool) → bit t ≢ 1 → t ≡ false
-bit-false true g = absurd (g refl)
-bit-false false g = refl
 
 -- pins that were apart stay apart
 moved-apart : (first m p q : ℕ) → p < q → moved first m p ≢ moved first m q
@@ -77,7 +70,7 @@ module _ (N : Netlist) (low : ℕ → ℕ) (b : ℕ) (branches block lowest mark
 
   -- a mark says that there is a copy
   marked-copy : (k j : ℕ) → k < b → j < N .cells → getD marks (1024 * k + j) 0 ≡ 1 → copied N (blocks N low) k j ≡ true
-  marked-copy k j l c e = bit-true (copied N (blocks N low) k j) (sym (K .copies-are .marked k j (omega (arith, count-is)) c) ∙ e)
+  marked-copy k j l c e = sym (bit-is (copied N (blocks N low) k j)) ∙ eq-eqb (bit (copied N (blocks N low) k j)) 1 (sym (K .copies-are .marked k j (omega (arith, count-is)) c) ∙ e)
 
   pub room-of : Room (N .inputs) (N .cells) b marks numbers
   room-of = record {
@@ -105,7 +98,7 @@ module _ (N : Netlist) (low : ℕ → ℕ) (b : ℕ) (branches block lowest mark
     pub for-unmarked : (j : ℕ) → net ≡ N .inputs + j → getD marks (1024 * k + j) 0 ≢ 1 → b + j ≡ netFor N (blocks N low) k net
     for-unmarked j e g =
         let c : j < N .cells = omega arith in
-        let f : copied N (blocks N low) k j ≡ false = bit-false (copied N (blocks N low) k j) (λ t. g (K .copies-are .marked k j (omega (arith, count-is)) c ∙ t)) in
+        let f : copied N (blocks N low) k j ≡ false = sym (bit-is (copied N (blocks N low) k j)) ∙ ne-eqb (bit (copied N (blocks N low) k j)) 1 (λ t. g (K .copies-are .marked k j (omega (arith, count-is)) c ∙ t)) in
         let q : netFor N (blocks N low) k net ≡ blocks N low .count + j = ap (netFor N (blocks N low) k) e ∙ for-cell N (blocks N low) k j f in
         omega (arith, q, count-is)
 

@@ -1,13 +1,13 @@
-use Prim.Native.Nat.{ℕ, _≤_, _<_}
+use Prim.Native.Nat.{ℕ, _<_}
 use mathlib.Core.Path.{refl}
-use mathlib.Core.Bool.{Bool, true, false}
 use native.Mathlib.Omega.{arith}
 use borrow.Author.Needs.{needs}
 use lib.ListN.{getD}
-use Rattle.chip.specs.Netlist.{Netlist, allPins, bit}
+use Rattle.chip.specs.Netlist.{Netlist, allPins}
 use Rattle.chip.specs.Inner.Tables.{tabled}
 use Rattle.chip.specs.Pads.{some, branchOf}
 use Rattle.chip.specs.Class.{blocks}
+use Rattle.chip.proofs.Bools.{bit-low}
 use Rattle.chip.proofs.Blocks.{counted}
 use Rattle.copies.specs.Inner.Marks.{flatWay}
 use Rattle.copies.proofs.Counts.{found-copies}
@@ -37,10 +37,6 @@ mark-copies-requires c κs =
 
 mul-number-copies : tie.Need-mul-number-copies
 mul-number-copies c = omega (arith, c .before .before .before .before .before .before .before .before .before .pre .1 .1 .1 .1 .1 .1 .0 .0)
-
-bit-low : (t : Bool) → bit t ≤ 1
-bit-low true = omega arith
-bit-low false = omega arith
 
 number-copies-requires : tie.Need-number-copies-requires
 number-copies-requires c κs =
