@@ -1,4 +1,4 @@
-"""The listing's text, compared with the program `listing`."""
+"""The listing's text, compared with the program `listing`, on netlists of all sorts and in shapes of its own."""
 
 import random
 
@@ -7,16 +7,18 @@ from simulator import generators as g
 from simulator import programs
 from simulator.draw import any_file
 from simulator.hits import loop_hits, refusals
+from simulator.listing_hits import LISTED, listed_hits
 from simulator.looped import largest_looped
 from simulator.modes import FIRST
 from simulator.pad_hits import PADS, pad_hits
 from simulator.padded import largest_padded
 from simulator.reading import read
+from simulator.shapes import any_shape, large_shapes
 from simulator.structure import prepare
 from simulator.tally import Tally
 
 MUST = refusals(*range(1, 12)) + ["9 above a hanging net", "9 at the largest size", "class 2", "class 3", "found",
-                                  "untestable", "refused 16 of a fault", "depth 255", "largest"] + PADS
+                                  "untestable", "refused 16 of a fault", "depth 255", "largest"] + PADS + LISTED
 
 
 def draw_files(volumes):
@@ -30,6 +32,12 @@ def draw_files(volumes):
     return files
 
 
+def draw_shapes(volumes):
+    """Netlists that list, in the shapes that looking for all faults at once can get wrong, the large ones last."""
+    rng = random.Random(volumes.seed + 41)
+    return [any_shape(rng) for _ in range(volumes.shapes)] + large_shapes(rng)
+
+
 def hits(file, text):
     """What a listing hits."""
     lines = text.splitlines()
@@ -37,7 +45,7 @@ def hits(file, text):
     if words[0] == "refused":
         return refusals(words[1]) + (loop_hits(read(file)) if words[1] == "9" else [])
     found = [f"class {words[9]}", f"depth {words[7]}"] + ["largest"] * (words[:6] == "in 64 cells 1024 out 64".split())
-    found += pad_hits(prepare(file))
+    found += pad_hits(prepare(file)) + listed_hits(prepare(file), text)
     answers = {line.split()[1] for line in lines[1:]}
     names = {"out": "found", "untestable": "untestable", "refused": "refused 16 of a fault"}
     return found + [names[word] for word in answers]
@@ -56,9 +64,10 @@ def compare_listing(tally, texts):
 
 def parts(volumes):
     tally = Tally("listings, compared with the program")
-    texts = {file: FIRST.listing(file) for file in draw_files(volumes)}
-    for file, text in texts.items():
-        tally.hit(*hits(file, text))
+    texts = {}
+    for file in draw_files(volumes) + draw_shapes(volumes):
+        texts[file] = FIRST.listing(file)
+        tally.hit(*hits(file, texts[file]))
     compare_listing(tally, texts)
     tally.must_hit(MUST)
     yield tally

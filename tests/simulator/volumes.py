@@ -11,7 +11,8 @@ class Volumes:
     settings: int = 10_000  # calls of codes 2, 3 and 4 together
     checks: int = 10_000  # calls of code 5
     searches: int = 5_000  # calls of code 6
-    listings: int = 300  # netlists for the program listing
+    listings: int = 300  # netlists of all sorts for the program listing
+    shapes: int = 1_200  # netlists for it in the shapes that looking for all faults at once can get wrong
     small: int = 1_700  # small netlists on which the two modes are compared
     laws: int = 300  # larger netlists on which the laws are tried
     loops: int = 400  # netlists with loops in both modes and in calls, a tenth of them in the listing too

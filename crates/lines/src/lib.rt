@@ -1,6 +1,6 @@
 // Lines of text on standard output, through a buffer, `line`: its first `used` bytes wait to be written. Every function
 // leaves `used` within the buffer.
-ghost use Prim.Native.Nat.{_≤_, _<_};
+ghost use Prim.Native.Nat.{_+_, _≤_, _<_};
 ghost use mathlib.Core.Path.{_≡_};
 ghost use lib.ListN.{length};
 
@@ -17,11 +17,12 @@ pub fn finish(line: &[u8], used: &mut usize)
     }
 }
 
-// Room for a byte: a full buffer is written.
-fn room(line: &[u8; 65536], used: &mut usize)
-    ensures { λ _. ⌜ now (used .exit) < 65536 ⌝ }
+// Room for n bytes: a buffer with less is written.
+fn room(line: &[u8; 65536], used: &mut usize, n: usize)
+    requires { ⌜ n ≤ 65536 ⌝ }
+    ensures { λ _. ⌜ now (used .exit) + n ≤ 65536 ⌝ }
 {
-    if *used >= 65536 {
+    if *used > 65536 - n {
         finish(line, used);
     }
 }
@@ -29,7 +30,7 @@ fn room(line: &[u8; 65536], used: &mut usize)
 fn byte(line: &mut [u8; 65536], used: &mut usize, b: u8)
     ensures { λ _. ⌜ now (used .exit) ≤ 65536 ⌝ }
 {
-    room(line, used);
+    room(line, used, 1);
     let i = *used;
     line[i] = b;
     *used = i + 1;
@@ -64,7 +65,7 @@ fn run(line: &mut [u8; 65536], used: &mut usize, bytes: &[u8], n: usize, hex: bo
     requires { ⌜ n ≤ length (now bytes) ⌝ }
     ensures { λ _. ⌜ now (used .exit) ≤ 65536 ⌝ }
 {
-    room(line, used);
+    room(line, used, 1);
     for i in 0..n {
         put(line, used, bytes[i], hex);
     }
@@ -84,6 +85,34 @@ pub fn field(line: &mut [u8; 65536], used: &mut usize, name: &[u8], n: usize)
     let mut digits = [0u8; 20];
     let k = io::decimal(n as u64, &mut digits);
     text(line, used, &digits[..k]);
+}
+
+// A blank and i digits at a place of the buffer: the bytes from a place on, each 0 or 1.
+fn clock(line: &mut [u8; 65536], at: usize, play: &[u8], from: usize, i: usize)
+    requires { ⌜ (at + i < 65536) × (from + i ≤ length (now play)) × (from ≤ 65536) ⌝ }
+{
+    line[at] = b' ';
+    for x in 0..i {
+        line[at + 1 + x] = 48 + play[from + x] % 2;
+    }
+}
+
+// The n clocks of a play in order, a blank and i digits each. There is room for all before the first is written.
+pub fn clocks(line: &mut [u8; 65536], used: &mut usize, play: &[u8], i: usize, n: usize)
+    requires { ⌜ (i ≤ 64) × (n ≤ 256) × (16384 ≤ length (now play)) ⌝ }
+    ensures { λ _. ⌜ now (used .exit) ≤ 65536 ⌝ }
+{
+    room(line, used, n * (i + 1));
+    let mut at = *used;
+    let mut from = 0;
+    let mut left = n;
+    while 0 < left {
+        clock(line, at, play, from, i);
+        at += i + 1;
+        from += i;
+        left -= 1;
+    }
+    *used = at;
 }
 
 pub fn refused(line: &mut [u8; 65536], used: &mut usize, number: u8, place: usize)

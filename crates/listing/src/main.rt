@@ -1,5 +1,7 @@
 // Lists a netlist from standard input: a line of sizes and a line for each fault, or the one line of its refusal.
-ghost use Prim.Native.Nat.{_≤_, _<_};
+ghost use Prim.Native.Nat.{_≤_};
+ghost use mathlib.Core.Logic.{_≢_};
+ghost use lib.ListN.{length};
 ghost use Rattle.chip.specs.Inner.Tables.{tabled};
 ghost use Rattle.walk.specs.Walk.{Ready};
 use chip::Fault;
@@ -8,31 +10,6 @@ use netlist::Reading;
 use search::Searched;
 use structure::Found;
 use structure::Shape;
-
-// The i digits of a clock, which begins at a place of the play.
-fn digits(play: &[u8], from: usize, i: usize, line: &mut [u8; 65536], used: &mut usize)
-    requires { ⌜ (from ≤ 65536) × (i ≤ 64) ⌝ }
-{
-    for x in 0..i {
-        if from + x < play.len() {
-            lines::field(line, used, b"", chip::wide8(play[from + x]));
-        }
-    }
-}
-
-// The clocks of a play in order, i digits each.
-fn clocks(play: &[u8], i: usize, d: usize, line: &mut [u8; 65536], used: &mut usize)
-    requires { ⌜ (i ≤ 64) × (d ≤ 255) ⌝ }
-{
-    let mut from = 0;
-    let mut t = 0;
-    while t <= d {
-        lines::text(line, used, b" ");
-        digits(play, from, i, line, used);
-        from += i;
-        t += 1;
-    }
-}
 
 // The site and the stuck value.
 fn name(fault: Fault, line: &mut [u8; 65536], used: &mut usize) {
@@ -50,14 +27,14 @@ fn name(fault: Fault, line: &mut [u8; 65536], used: &mut usize) {
 
 // The line of a fault from its answer.
 fn answer(r: Searched, play: &[u8], i: usize, d: usize, line: &mut [u8; 65536], used: &mut usize)
-    requires { ⌜ (i ≤ 64) × (d ≤ 255) ⌝ }
+    requires { ⌜ (i ≤ 64) × (d ≤ 255) × (16384 ≤ length (now play)) ⌝ }
 {
     match r {
         Searched::Found(z, _, k) => {
             lines::field(line, used, b" out ", z);
             lines::field(line, used, b" tries ", k);
             lines::text(line, used, b" play");
-            clocks(play, i, d, line, used);
+            lines::clocks(line, used, play, i, d + 1);
         }
         Searched::Untestable(k) => {
             lines::field(line, used, b" untestable tries ", k);
@@ -118,12 +95,30 @@ fn list(
     used: &mut usize,
 )
     requires { ⌜ Ready (tabled i c o (now kinds) (now counts) (now nets)) n s (now firsts) (now order) (now branches) (now block) (now reached) (now cone) ⌝ }
+    requires { ⌜ (s .class ≢ 1) × (16384 ≤ length (now play)) ⌝ }
 {
     sizes(i, c, o, s, line, used);
+    let mut spots = [0u16; 1024];
+    spots::find_spots(
+        i,
+        c,
+        o,
+        n,
+        s,
+        kinds,
+        counts,
+        firsts,
+        nets,
+        order,
+        branches,
+        block,
+        reached,
+        &mut spots,
+    );
     for k in 0..2 * (i + c + n) {
         let fault = fault_at(i + c, k);
         name(fault, line, used);
-        let r = search::search_chip(
+        let r = search::search_open(
             i,
             c,
             o,
@@ -139,6 +134,7 @@ fn list(
             block,
             reached,
             cone,
+            &spots,
             play,
         );
         answer(r, play, i, s.depth, line, used);
@@ -152,7 +148,9 @@ fn refused(number: u8, place: usize, line: &mut [u8; 65536], used: &mut usize) {
 }
 
 // The listing of a file, or the line of its refusal.
-fn list_file(file: &[u8], play: &mut [u8], line: &mut [u8; 65536], used: &mut usize) {
+fn list_file(file: &[u8], play: &mut [u8], line: &mut [u8; 65536], used: &mut usize)
+    requires { ⌜ 16384 ≤ length (now play) ⌝ }
+{
     let t = netlist::read(file);
     let reading = t.reading;
     let z = match reading {
@@ -232,7 +230,9 @@ fn list_file(file: &[u8], play: &mut [u8], line: &mut [u8; 65536], used: &mut us
 }
 
 // Writes the listing of a file to standard output.
-fn run(file: &[u8], play: &mut [u8], line: &mut [u8; 65536]) {
+fn run(file: &[u8], play: &mut [u8], line: &mut [u8; 65536])
+    requires { ⌜ 16384 ≤ length (now play) ⌝ }
+{
     let mut used = 0;
     list_file(file, play, line, &mut used);
     lines::finish(line, &mut used);

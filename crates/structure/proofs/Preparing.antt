@@ -16,8 +16,9 @@ use Rattle.order.proofs.Order.{order-free, ranked-of}
 use Rattle.chip.proofs.Plain.{within-branches}
 use Rattle.blocks.specs.Labels.{Numbered}
 use Rattle.blocks.proofs.Numbers.{counted-few}
-use Rattle.balance.specs.Balance.{FewLabels}
+use Rattle.balance.specs.Balance.{FewLabels, LowestUneven}
 use Rattle.structure.specs.Inner.Shape.{OneInput, LowestDeep, DepthFound, DepthIs, Evened, Classified, Shaped}
+use Rattle.structure.specs.declared.Measured.{Measured}
 use Rattle.structure.specs.declared.Depths.{Depths}
 use Rattle.structure.specs.declared.Depths.the-variants.{Is, Over}
 use Rattle.structure.proofs.Evenness.{blocks-own, place-11}
@@ -30,11 +31,11 @@ settled-loop N order r j s e = subst (Settled N order) e s
 pub settled-done : (N : Netlist) (order : List ℕ) (r : Ordering) → Settled N order r → r ≡ Done → Ordered N order
 settled-done N order r s e = subst (Settled N order) e s
 
-pub depth-over : (N : Netlist) (low : ℕ → ℕ) (r : Depths) (z : ℕ) → DepthIs N low r → r ≡ Over z → LowestDeep N z
-depth-over N low r z s e = subst (DepthIs N low) e s
+pub depth-over : (N : Netlist) (branches : List ℕ) (low : ℕ → ℕ) (r : Depths) (z : ℕ) → DepthIs N branches low r → r ≡ Over z → LowestDeep N z
+depth-over N branches low r z s e = subst (DepthIs N branches low) e s
 
-pub depth-of : (N : Netlist) (low : ℕ → ℕ) (r : Depths) (d : ℕ) → DepthIs N low r → r ≡ Is d → DepthFound N low d
-depth-of N low r d s e = subst (DepthIs N low) e s
+pub depth-of : (N : Netlist) (branches : List ℕ) (low : ℕ → ℕ) (r : Depths) (m : Measured) → DepthIs N branches low r → r ≡ Is m → DepthFound N low (m .depth) × LowestUneven N branches (m .input)
+depth-of N branches low r m s e = subst (DepthIs N branches low) e s
 
 -- labels are few
 module _ (N : Netlist) (L : InLimits N) (low : ℕ → ℕ) (K : Lowest N low) (table : List ℕ) (count : ℕ) (n : Numbered N low table count) where
@@ -48,16 +49,16 @@ module _ (N : Netlist) (L : InLimits N) (low : ℕ → ℕ) (K : Lowest N low) (
   pub blocks-one : OneInput N table
   blocks-one = blocks-own N low K table (n .block-is)
 
-  pub shaped : (nets : List ℕ) → BranchTable N nets → (firsts order seen reached : List ℕ) (d x y k : ℕ) → FirstPins N firsts → Ordered N order → DepthFound N low d
-      → Evened N nets d seen x → Evened N table d reached y → Classified (N .inputs) y x k
+  pub shaped : (nets : List ℕ) → BranchTable N nets → (firsts order reached : List ℕ) (d x y k : ℕ) → FirstPins N firsts → Ordered N order → DepthFound N low d
+      → LowestUneven N nets x → Evened N table d reached y → Classified (N .inputs) y x k
       → Shaped N firsts order nets table reached (record { depth = d; class = k; blocks = count; place = y })
-  shaped nets same firsts order seen reached d x y k F O D u v c =
+  shaped nets same firsts order reached d x y k F O D u v c =
       record {
         low = low;
         first-pins = F;
         ordered = O;
         branch-table = same;
-        prepared = record { loop-free = order-free O; depth = D .depth; lowest = K; classed = class-is N low K nets table same (n .block-is) y x k (v .lowest) (u .lowest) c };
+        prepared = record { loop-free = order-free O; depth = D .depth; lowest = K; classed = class-is N low K nets table same (n .block-is) y x k (v .lowest) u c };
         shallow = D .shallow;
         count = n .count-is;
         block-table = n .block-is;

@@ -1,21 +1,27 @@
 // From a netlist file to the order of its cells, its depth, blocks and class.
 ghost use mathlib.Core.Path.{_≡_};
-ghost use Prim.Native.Nat.{ℕ, _+_, _≤_, _<_};
+ghost use Prim.Native.Nat.{ℕ, suc, _≤_, _<_};
 ghost use lib.ListN.{getD};
 ghost use Rattle.chip.specs.Netlist.{allPins, InLimits};
 ghost use Rattle.chip.specs.Inner.Tables.{tabled, FirstPins, BranchTable};
 ghost use Rattle.chip.specs.Class.{Within};
 ghost use Rattle.order.specs.Order.{Ordered};
-ghost use Rattle.levels.specs.Levels.{MasksBefore};
-ghost use Rattle.blocks.specs.Labels.{labelOf, Labels};
-ghost use Rattle.balance.specs.Balance.{FewLabels};
-ghost use Rattle.structure.specs.Inner.Shape.{OneInput, Deeper, DepthIs, Evened, Classified, FoundIs};
+ghost use Rattle.levels.specs.Levels.{MasksBefore, LevelMasks};
+ghost use Rattle.blocks.specs.Labels.{labelOf, Labels, LevelJoined};
+ghost use Rattle.balance.specs.Balance.{FewLabels, SeenMasks, LowestUneven};
+ghost use Rattle.structure.specs.Inner.Shape.{OneInput, Deeper, DepthIs, FlatKinds, Seen, Evened, Classified, FoundIs};
 ghost use Rattle.structure.specs.Reply.{ClassReply};
 use order::Ordering;
 
-// The depth, or the lowest output that is deeper than 255.
+// The depth, and the lowest input that reaches an output with two depths, or the number of inputs if none does.
+pub struct Measured {
+    pub depth: usize,
+    pub input: usize,
+}
+
+// These, or the lowest output that is deeper than 255.
 pub enum Depths {
-    Is(usize),
+    Is(Measured),
     Over(usize),
 }
 
@@ -41,6 +47,38 @@ pub enum Classed {
     Refused(u8, usize),
 }
 
+// Joins the branches that reach one output at depth e; there are none where no input's net reaches one.
+fn join_inputs(
+    i: usize,
+    c: usize,
+    o: usize,
+    n: usize,
+    e: usize,
+    kinds: &[u8; 1024],
+    counts: &[u8; 1024],
+    nets: &[u16; 4096],
+    branches: &[u16; 4096],
+    order: &[u16; 1024],
+    reached: &[u64; 1088],
+    pins: &[u64; 4096],
+    low: &mut [u16; 4096],
+)
+    requires { ⌜ InLimits (tabled i c o (now kinds) (now counts) (now nets)) ⌝ }
+    requires { ⌜ n ≡ allPins (tabled i c o (now kinds) (now counts) (now nets)) ⌝ }
+    requires { ⌜ Ordered (tabled i c o (now kinds) (now counts) (now nets)) (now order) ⌝ }
+    requires { ⌜ LevelMasks (tabled i c o (now kinds) (now counts) (now nets)) e (now pins) (now reached) ⌝ }
+    requires { ⌜ Labels (tabled i c o (now kinds) (now counts) (now nets)) (labelOf (tabled i c o (now kinds) (now counts) (now nets)) (now low)) ⌝ }
+    requires { ⌜ BranchTable (tabled i c o (now kinds) (now counts) (now nets)) (now branches) ⌝ }
+    ensures { λ _. ⌜ LevelJoined (tabled i c o (now (kinds .entry)) (now (counts .entry)) (now (nets .entry))) e
+        (labelOf (tabled i c o (now (kinds .entry)) (now (counts .entry)) (now (nets .entry))) (now (low .entry)))
+        (labelOf (tabled i c o (now (kinds .entry)) (now (counts .entry)) (now (nets .entry))) (now (low .exit))) ⌝ }
+{
+    if levels::any_net(i, reached) == 0 {
+        return;
+    }
+    blocks::join_level(i, c, o, n, e, kinds, counts, nets, branches, pins, low);
+}
+
 // One depth further: the masks at depth e, and the branches joined that reach one output at it. The answer is the outputs reached.
 fn deeper(
     i: usize,
@@ -56,6 +94,7 @@ fn deeper(
     order: &[u16; 1024],
     before: &[u64; 1088],
     after: &mut [u64; 1088],
+    pins: &mut [u64; 4096],
     low: &mut [u16; 4096],
 ) -> u64
     requires { ⌜ InLimits (tabled i c o (now kinds) (now counts) (now nets)) ⌝ }
@@ -69,7 +108,6 @@ fn deeper(
         (labelOf (tabled i c o (now (kinds .entry)) (now (counts .entry)) (now (nets .entry))) (now (low .entry)))
         (labelOf (tabled i c o (now (kinds .entry)) (now (counts .entry)) (now (nets .entry))) (now (low .exit))) r ⌝ }
 {
-    let mut pins = [0u64; 4096];
     levels::level(
         i,
         c,
@@ -81,14 +119,28 @@ fn deeper(
         nets,
         order,
         before,
-        &mut pins,
+        pins,
         after,
     );
-    blocks::join_level(i, c, o, n, e, kinds, counts, nets, branches, &pins, low);
+    join_inputs(
+        i,
+        c,
+        o,
+        n,
+        e,
+        kinds,
+        counts,
+        nets,
+        branches,
+        order,
+        after,
+        pins,
+        low,
+    );
     levels::any_net(i + c, after)
 }
 
-// The depth, with the blocks joined on the way.
+// The depth, with the blocks joined on the way, and the lowest input that reaches an output with two depths.
 fn join_blocks(
     i: usize,
     c: usize,
@@ -108,10 +160,13 @@ fn join_blocks(
     requires { ⌜ Ordered (tabled i c o (now kinds) (now counts) (now nets)) (now order) ⌝ }
     requires { ⌜ BranchTable (tabled i c o (now kinds) (now counts) (now nets)) (now branches) ⌝ }
     ensures { λ r. ⌜ DepthIs (tabled i c o (now (kinds .entry)) (now (counts .entry)) (now (nets .entry)))
-        (labelOf (tabled i c o (now (kinds .entry)) (now (counts .entry)) (now (nets .entry))) (now (low .exit))) r ⌝ }
+        (now (branches .entry)) (labelOf (tabled i c o (now (kinds .entry)) (now (counts .entry)) (now (nets .entry))) (now (low .exit))) r ⌝ }
 {
     let mut before = [0u64; 1088];
     let mut after = [0u64; 1088];
+    let mut pins = [0u64; 4096];
+    let mut seen = [0u64; 64];
+    let mut lowest = i;
     blocks::single_labels(low);
     let mut e = 0;
     while e < 256 {
@@ -129,12 +184,17 @@ fn join_blocks(
             order,
             &before,
             &mut after,
+            &mut pins,
             low,
         );
         if outs == 0 {
-            return Depths::Is(e - 1);
+            return Depths::Is(Measured {
+                depth: e - 1,
+                input: lowest,
+            });
         }
-        before = after;
+        lowest = balance::meet_inputs(i, &after, &mut seen, lowest);
+        levels::keep(i + c, &after, &mut before);
         e += 1;
     }
     let over = deeper(
@@ -151,12 +211,80 @@ fn join_blocks(
         order,
         &before,
         &mut after,
+        &mut pins,
         low,
     );
     if over == 0 {
-        return Depths::Is(255);
+        return Depths::Is(Measured {
+            depth: 255,
+            input: lowest,
+        });
     }
     Depths::Over(words::lowest_bit(over))
+}
+
+// The lowest input below `best` with a branch that reaches, at depth e, an output that its label was seen at; else `best`.
+// Each branch's label is then seen at these outputs. There is nothing to do where no input's net reaches an output.
+fn uneven_at(
+    i: usize,
+    c: usize,
+    o: usize,
+    n: usize,
+    e: usize,
+    kinds: &[u8; 1024],
+    counts: &[u8; 1024],
+    nets: &[u16; 4096],
+    branches: &[u16; 4096],
+    order: &[u16; 1024],
+    reached: &[u64; 1088],
+    pins: &[u64; 4096],
+    labels: &[u16; 4096],
+    seen: &mut [u64; 4160],
+    best: usize,
+) -> usize
+    requires { ⌜ InLimits (tabled i c o (now kinds) (now counts) (now nets)) ⌝ }
+    requires { ⌜ n ≡ allPins (tabled i c o (now kinds) (now counts) (now nets)) ⌝ }
+    requires { ⌜ (e ≤ 255) × Ordered (tabled i c o (now kinds) (now counts) (now nets)) (now order) ⌝ }
+    requires { ⌜ LevelMasks (tabled i c o (now kinds) (now counts) (now nets)) e (now pins) (now reached) ⌝ }
+    requires { ⌜ FewLabels (tabled i c o (now kinds) (now counts) (now nets)) (now labels) ⌝ }
+    requires { ⌜ SeenMasks (tabled i c o (now kinds) (now counts) (now nets)) (now labels) e (now seen) ⌝ }
+    requires { ⌜ BranchTable (tabled i c o (now kinds) (now counts) (now nets)) (now branches) ⌝ }
+    ensures { λ r. ⌜ Seen (tabled i c o (now (kinds .entry)) (now (counts .entry)) (now (nets .entry))) (now (labels .entry)) e best (now (seen .exit)) r ⌝ }
+{
+    if levels::any_net(i, reached) == 0 {
+        return best;
+    }
+    let lowest = balance::conflict(
+        i,
+        c,
+        o,
+        n,
+        e,
+        kinds,
+        counts,
+        nets,
+        branches,
+        pins,
+        labels,
+        seen,
+        best,
+    );
+    balance::see(
+        i,
+        c,
+        o,
+        n,
+        e,
+        e + 1,
+        kinds,
+        counts,
+        nets,
+        branches,
+        pins,
+        labels,
+        seen,
+    );
+    lowest
 }
 
 // The lowest input with branches of one label that reach one output with two depths; i if there is none.
@@ -207,7 +335,7 @@ fn lowest_uneven(
             &mut pins,
             &mut after,
         );
-        lowest = balance::conflict(
+        lowest = uneven_at(
             i,
             c,
             o,
@@ -217,29 +345,157 @@ fn lowest_uneven(
             counts,
             nets,
             branches,
+            order,
+            &after,
             &pins,
             labels,
             seen,
             lowest,
         );
-        balance::see(
+        levels::keep(i + c, &after, &mut before);
+        e += 1;
+    }
+    lowest
+}
+
+// The kinds without flip-flops.
+fn flat_kinds(kinds: &[u8; 1024], gates: &mut [u8; 1024])
+    ensures { λ _. ⌜ FlatKinds (now (kinds .entry)) (now (gates .exit)) ⌝ }
+{
+    // The array as a slice, of which the proof is told the length.
+    let table = &mut gates[..];
+    let mut j = 0;
+    while j < 1024 {
+        table[j] = chip::flat_kind(kinds[j]);
+        j += 1;
+    }
+}
+
+// Each label is seen at the outputs that a branch with it reaches, at whatever depth: without flip-flops, at depth 0.
+fn see_all(
+    i: usize,
+    c: usize,
+    o: usize,
+    n: usize,
+    d: usize,
+    kinds: &[u8; 1024],
+    counts: &[u8; 1024],
+    firsts: &[u16; 1025],
+    nets: &[u16; 4096],
+    branches: &[u16; 4096],
+    order: &[u16; 1024],
+    labels: &[u16; 4096],
+    seen: &mut [u64; 4160],
+)
+    requires { ⌜ InLimits (tabled i c o (now kinds) (now counts) (now nets)) ⌝ }
+    requires { ⌜ n ≡ allPins (tabled i c o (now kinds) (now counts) (now nets)) ⌝ }
+    requires { ⌜ FirstPins (tabled i c o (now kinds) (now counts) (now nets)) (now firsts) ⌝ }
+    requires { ⌜ Ordered (tabled i c o (now kinds) (now counts) (now nets)) (now order) ⌝ }
+    requires { ⌜ (d ≤ 255) × Within (tabled i c o (now kinds) (now counts) (now nets)) d ⌝ }
+    requires { ⌜ FewLabels (tabled i c o (now kinds) (now counts) (now nets)) (now labels) ⌝ }
+    requires { ⌜ ((l : ℕ) → l < 4160 → getD (now seen) l 0 ≡ 0) ⌝ }
+    requires { ⌜ BranchTable (tabled i c o (now kinds) (now counts) (now nets)) (now branches) ⌝ }
+    ensures { λ _. ⌜ SeenMasks (tabled i c o (now (kinds .entry)) (now (counts .entry)) (now (nets .entry))) (now (labels .entry)) (suc d) (now (seen .exit)) ⌝ }
+{
+    let mut gates = [0u8; 1024];
+    let before = [0u64; 1088];
+    let mut after = [0u64; 1088];
+    let mut pins = [0u64; 4096];
+    flat_kinds(kinds, &mut gates);
+    levels::level(
+        i,
+        c,
+        o,
+        0,
+        &gates,
+        counts,
+        firsts,
+        nets,
+        order,
+        &before,
+        &mut pins,
+        &mut after,
+    );
+    balance::see(
+        i,
+        c,
+        o,
+        n,
+        0,
+        d + 1,
+        kinds,
+        counts,
+        nets,
+        branches,
+        &pins,
+        labels,
+        seen,
+    );
+}
+
+// `lowest_uneven` for the blocks, given the lowest input x that reaches an output with two depths: where there is none, no
+// block does, and only the outputs that each block reaches are wanted.
+fn uneven_block(
+    i: usize,
+    c: usize,
+    o: usize,
+    n: usize,
+    d: usize,
+    x: usize,
+    kinds: &[u8; 1024],
+    counts: &[u8; 1024],
+    firsts: &[u16; 1025],
+    nets: &[u16; 4096],
+    branches: &[u16; 4096],
+    order: &[u16; 1024],
+    block: &[u16; 4096],
+    seen: &mut [u64; 4160],
+) -> usize
+    requires { ⌜ InLimits (tabled i c o (now kinds) (now counts) (now nets)) ⌝ }
+    requires { ⌜ n ≡ allPins (tabled i c o (now kinds) (now counts) (now nets)) ⌝ }
+    requires { ⌜ FirstPins (tabled i c o (now kinds) (now counts) (now nets)) (now firsts) ⌝ }
+    requires { ⌜ Ordered (tabled i c o (now kinds) (now counts) (now nets)) (now order) ⌝ }
+    requires { ⌜ (d ≤ 255) × Within (tabled i c o (now kinds) (now counts) (now nets)) d ⌝ }
+    requires { ⌜ FewLabels (tabled i c o (now kinds) (now counts) (now nets)) (now block) ⌝ }
+    requires { ⌜ OneInput (tabled i c o (now kinds) (now counts) (now nets)) (now block) ⌝ }
+    requires { ⌜ ((l : ℕ) → l < 4160 → getD (now seen) l 0 ≡ 0) ⌝ }
+    requires { ⌜ BranchTable (tabled i c o (now kinds) (now counts) (now nets)) (now branches) ⌝ }
+    requires { ⌜ LowestUneven (tabled i c o (now kinds) (now counts) (now nets)) (now branches) x ⌝ }
+    ensures { λ r. ⌜ Evened (tabled i c o (now (kinds .entry)) (now (counts .entry)) (now (nets .entry))) (now (block .entry)) d (now (seen .exit)) r ⌝ }
+{
+    if x < i {
+        return lowest_uneven(
             i,
             c,
             o,
             n,
-            e,
+            d,
             kinds,
             counts,
+            firsts,
             nets,
             branches,
-            &pins,
-            labels,
+            order,
+            block,
             seen,
         );
-        before = after;
-        e += 1;
     }
-    lowest
+    see_all(
+        i,
+        c,
+        o,
+        n,
+        d,
+        kinds,
+        counts,
+        firsts,
+        nets,
+        branches,
+        order,
+        block,
+        seen,
+    );
+    i
 }
 
 // The class: 1 if a block has two depths to one output, else 2 if an input has, else 3.
@@ -284,7 +540,7 @@ pub fn prepare(
         Ordering::Done => {}
     }
     pads::branches(i, c, o, n, kinds, counts, firsts, nets, order, branches);
-    let d = match join_blocks(
+    let w = match join_blocks(
         i,
         c,
         o,
@@ -300,31 +556,18 @@ pub fn prepare(
         Depths::Over(z) => {
             return Found::TooDeep(z);
         }
-        Depths::Is(d) => d,
+        Depths::Is(w) => w,
     };
+    let d = w.depth;
+    let x = w.input;
     let b = blocks::number_blocks(i, c, o, n, kinds, counts, nets, branches, &low, block);
-    let mut seen = [0u64; 4160];
-    let x = lowest_uneven(
+    let y = uneven_block(
         i,
         c,
         o,
         n,
         d,
-        kinds,
-        counts,
-        firsts,
-        nets,
-        branches,
-        order,
-        branches,
-        &mut seen,
-    );
-    let y = lowest_uneven(
-        i,
-        c,
-        o,
-        n,
-        d,
+        x,
         kinds,
         counts,
         firsts,

@@ -54,7 +54,18 @@ reach-masks-requires : tie.Need-reach-masks-requires
 reach-masks-requires c κs = let h = holds _ _ _ (c .before .before .before .before .before .before .before .before .before .before .before .before .before .before .before .before .before .before .before .before .before .before .before .before .before .before .read .ensures) (c .before .before .before .before .before .before .before .before .before .before .before .before .before .before .before .before .before .before .before .before .before .before .before .before .reading2 .given .1) in let S = found-chip _ _ _ _ _ _ _ (c .before .before .before .before .before .before .before .before .before .before .before .prepare .ensures) _ (c .before .before .before .before .before .before .before .before .before .s .given .1) in (tables-limits _ _ _ h, (S .first-pins, S .ordered))
 
 list-requires : tie.Need-list-requires
-list-requires c κs = let h = holds _ _ _ (c .before .before .before .before .before .before .before .before .before .before .before .before .before .before .before .before .before .before .before .before .before .before .before .before .before .before .before .before .before .before .before .before .before .before .before .before .before .before .before .read .ensures) (c .before .before .before .before .before .before .before .before .before .before .before .before .before .before .before .before .before .before .before .before .before .before .before .before .before .before .before .before .before .before .before .before .before .before .before .before .before .reading2 .given .1) in let S = found-chip _ _ _ _ _ _ _ (c .before .before .before .before .before .before .before .before .before .before .before .before .before .before .before .before .before .before .before .before .before .before .before .before .prepare .ensures) _ (c .before .before .before .before .before .before .before .before .before .before .before .before .before .before .before .before .before .before .before .before .before .before .s .given .1) in record { limits = tables-limits _ _ _ h; pins = tables-pins _ _ _ h; shaped = S; cones = c .before .before .before .before .before .before .before .before .before .before .before .before .reach-masks .ensures }
+list-requires c κs =
+    let e = c .before .before .before .before .before .before .before .before .before .before .before .before .before .before .before .before .before .before .before in
+    let m = e .before .before .before .before .before in
+    let h = holds _ _ _ (m .before .before .before .before .before .before .before .before .before .before .before .before .before .before .before .read .ensures) (m .before .before .before .before .before .before .before .before .before .before .before .before .before .reading2 .given .1) in (
+      record {
+        limits = tables-limits _ _ _ h;
+        pins = tables-pins _ _ _ h;
+        shaped = found-chip _ _ _ _ _ _ _ (m .prepare .ensures) _ (e .before .before .before .s .given .1);
+        cones = c .before .before .before .before .before .before .before .before .before .before .before .before .reach-masks .ensures;
+      },
+      (e .if1 .left, m .before .before .before .before .before .before .before .before .before .before .before .before .before .before .before .before .before .before .pre),
+    )
 
 same-length : tie.Need-same-length
 same-length c = search needs

@@ -1,7 +1,4 @@
-use mathlib.Core.Path.{sym, _∙_}
-use native.Mathlib.Omega.{arith}
 use borrow.Author.Needs.{needs}
-use lib.ListN.{getD-replicate}
 use Rattle.order.proofs.Order.{wired, order-free}
 use Rattle.structure.proofs.Preparing.{settled-loop, settled-done, depth-over, depth-of, blocks-few, blocks-one, shaped}
 use Rattle.structure.proofs.prepare.Statement.{statement}
@@ -75,43 +72,26 @@ returns-2 c =
     let a = s .args in
     let F = f .first-pins .ensures (a .i) (a .o) (a .kinds .now) (a .nets .now) in
     let O = settled-done _ _ _ (o .order-cells .ensures (a .o) (a .kinds .now) (a .counts .now) F) (t .enum-told .given .1) in
-    (order-free O, depth-over _ _ _ _ (jb .join-blocks .ensures) (c .before .z .given .1))
+    (order-free O, depth-over _ _ _ _ _ (jb .join-blocks .ensures) (c .before .z .given .1))
 
-enum-known-d : tie.Need-enum-known-d
-enum-known-d c = search needs
+enum-known-w : tie.Need-enum-known-w
+enum-known-w c = search needs
 
 number-blocks-requires : tie.Need-number-blocks-requires
 number-blocks-requires c κs =
     let dp = c .before .before .before .before in
     let jb = dp .before .before in
-    let D = depth-of _ _ _ _ (jb .join-blocks .ensures) (dp .d .given .1) in
+    let D = depth-of _ _ _ _ _ (jb .join-blocks .ensures) (dp .w .given .1) .0 in
     let br = jb .before .before .before .before .before in
     let s = br .before .before .before .before .before .before .before .before .before .before .before in
     (s .pre .0, (s .pre .1 .0, (D .lowest, br .branches .ensures)))
 
-lowest-uneven-requires : tie.Need-lowest-uneven-requires
-lowest-uneven-requires c κs =
-    let nb = c .before .before .before .before in
+uneven-block-requires : tie.Need-uneven-block-requires
+uneven-block-requires c κs =
+    let nb = c .before .before .before .before .before in
     let dp = nb .before .before .before .before .before in
     let jb = dp .before .before in
-    let D = depth-of _ _ _ _ (jb .join-blocks .ensures) (dp .d .given .1) in
-    let br = jb .before .before .before .before .before in
-    let t = br .before .before .before .before in
-    let o = t .before .before in
-    let f = o .before .before .before in
-    let s = f .before .before in
-    let a = s .args in
-    let F = f .first-pins .ensures (a .i) (a .o) (a .kinds .now) (a .nets .now) in
-    let O = settled-done _ _ _ (o .order-cells .ensures (a .o) (a .kinds .now) (a .counts .now) F) (t .enum-told .given .1) in
-    let T = br .branches .ensures in
-    (s .pre .0, (s .pre .1 .0, (F, (O, ((D .shallow, D .depth .within), ((λ x p b. omega (arith, T p (b .pin), b .names, b .input, s .pre .0 .few-inputs)), ((λ x y p q b d e. sym (b .names) ∙ sym (T p (b .pin)) ∙ e ∙ T q (d .pin) ∙ d .names), ((λ l h. getD-replicate 4160 l 0 0 h), T))))))))
-
-lowest-uneven-requires-2 : tie.Need-lowest-uneven-requires-2
-lowest-uneven-requires-2 c κs =
-    let nb = c .before .before .before .before .before .before .before .before .before .before in
-    let dp = nb .before .before .before .before .before in
-    let jb = dp .before .before in
-    let D = depth-of _ _ _ _ (jb .join-blocks .ensures) (dp .d .given .1) in
+    let (D, U) = depth-of _ _ _ _ _ (jb .join-blocks .ensures) (dp .w .given .1) in
     let br = jb .before .before .before .before .before in
     let t = br .before .before .before .before in
     let o = t .before .before in
@@ -121,19 +101,18 @@ lowest-uneven-requires-2 c κs =
     let F = f .first-pins .ensures (a .i) (a .o) (a .kinds .now) (a .nets .now) in
     let O = settled-done _ _ _ (o .order-cells .ensures (a .o) (a .kinds .now) (a .counts .now) F) (t .enum-told .given .1) in
     let n = nb .number-blocks .ensures in
-    (s .pre .0, (s .pre .1 .0, (F, (O, ((D .shallow, D .depth .within), (blocks-few _ (s .pre .0) _ (D .lowest) _ _ n, (blocks-one _ (s .pre .0) _ (D .lowest) _ _ n, (s .pre .1 .1, br .branches .ensures))))))))
+    (s .pre .0, (s .pre .1 .0, (F, (O, ((D .shallow, D .depth .within), (blocks-few _ (s .pre .0) _ (D .lowest) _ _ n, (blocks-one _ (s .pre .0) _ (D .lowest) _ _ n, (s .pre .1 .1, (br .branches .ensures, U)))))))))
 
 classify-requires : tie.Need-classify-requires
 classify-requires c κs = search needs
 
 returns-3 : tie.Need-returns-3
 returns-3 c =
-    let u2 = c .before in
-    let u = u2 .before .before .before .before .before .before in
-    let nb = u .before .before .before .before .before in
+    let u = c .before in
+    let nb = u .before .before .before .before .before .before in
     let dp = nb .before .before .before .before .before in
     let jb = dp .before .before in
-    let D = depth-of _ _ _ _ (jb .join-blocks .ensures) (dp .d .given .1) in
+    let (D, U) = depth-of _ _ _ _ _ (jb .join-blocks .ensures) (dp .w .given .1) in
     let br = jb .before .before .before .before .before in
     let t = br .before .before .before .before in
     let o = t .before .before in
@@ -142,7 +121,7 @@ returns-3 c =
     let a = s .args in
     let F = f .first-pins .ensures (a .i) (a .o) (a .kinds .now) (a .nets .now) in
     let O = settled-done _ _ _ (o .order-cells .ensures (a .o) (a .kinds .now) (a .counts .now) F) (t .enum-told .given .1) in
-    shaped _ (s .pre .0) _ (D .lowest) _ _ (nb .number-blocks .ensures) _ (br .branches .ensures) _ _ _ _ _ _ _ _ F O D (u .lowest-uneven .ensures) (u2 .lowest-uneven2 .ensures) (c .classify .ensures)
+    shaped _ (s .pre .0) _ (D .lowest) _ _ (nb .number-blocks .ensures) _ (br .branches .ensures) _ _ _ _ _ _ _ F O D U (u .uneven-block .ensures) (c .classify .ensures)
 
 pub prepare-spec : {M : Type 1} → statement M
 prepare-spec =
@@ -158,9 +137,8 @@ prepare-spec =
     join-blocks-requires
     enum-known-z
     returns-2
-    enum-known-d
+    enum-known-w
     number-blocks-requires
-    lowest-uneven-requires
-    lowest-uneven-requires-2
+    uneven-block-requires
     classify-requires
     returns-3)

@@ -1,17 +1,18 @@
 -- What is worked out of a netlist once, for every call that follows.
-use Prim.Native.Nat.{ℕ, suc, _≤_, _<_}
+use Prim.Native.Nat.{ℕ, suc, _+_, _≤_, _<_}
 use mathlib.Core.Path.{_≡_}
 use mathlib.Core.List.{List}
 use lib.ListN.{getD}
 use Rattle.chip.specs.Netlist.{Netlist}
 use Rattle.chip.specs.Inner.Tables.{FirstPins, BranchTable}
+use Rattle.chip.specs.Transformed.{flat}
 use Rattle.chip.specs.Class.{LoopFree, Branch, Depth, Lowest, Prepared, blocks}
 use Rattle.chip.specs.Clocks.{BlockReaches}
 use Rattle.order.specs.Order.{Ordered}
 use Rattle.loops.specs.Loops.{LowestLoop}
 use Rattle.levels.specs.Levels.{Mask, MasksBefore, AnyReach}
 use Rattle.blocks.specs.Labels.{LevelJoined, BlockTable}
-use Rattle.balance.specs.Balance.{SeenMasks, LowestUneven}
+use Rattle.balance.specs.Balance.{SeenMasks, LowestConflict, LowestUneven}
 use Rattle.structure.specs.Opens.{Deep}
 use Rattle.structure.specs.Refusals.{When11}
 use Rattle.structure.specs.declared.Shape.{Shape}
@@ -31,19 +32,28 @@ pub record LowestDeep (N : Netlist) (z : ℕ) : Type 0 where
   pub deep : Deep N z
   pub none-below : (y : ℕ) → y < z → ¬ Deep N y
 
--- the depth with the blocks' lowest pins, or the lowest output that is too deep
+-- the depth with the blocks' lowest pins, and the lowest input that reaches an output with two depths; or the lowest output that is too deep
 pub record DepthFound (N : Netlist) (low : ℕ → ℕ) (d : ℕ) : Type 0 where
   pub depth : Depth N d
   pub lowest : Lowest N low
   pub shallow : d ≤ 255
 
-abbrev pub DepthIs : Netlist → (ℕ → ℕ) → Depths → Type 0
-DepthIs N low (Is d) = DepthFound N low d
-DepthIs N low (Over z) = LowestDeep N z
+abbrev pub DepthIs : Netlist → List ℕ → (ℕ → ℕ) → Depths → Type 0
+DepthIs N branches low (Is m) = DepthFound N low (m .depth) × LowestUneven N branches (m .input)
+DepthIs N branches low (Over z) = LowestDeep N z
+
+-- the table has the kinds without flip-flops
+pub record FlatKinds (kinds gates : List ℕ) : Type 0 where
+  pub at-cell : (j : ℕ) → j < 1024 → getD gates j 0 ≡ flat (getD kinds j 0)
 
 -- branches with one label are branches of one input
 abbrev pub OneInput : Netlist → List ℕ → Type 0
 OneInput N labels = (x y p q : ℕ) → Branch N x p → Branch N y q → getD labels p 0 ≡ getD labels q 0 → x ≡ y
+
+-- the lowest input below best with a conflict at depth e, or best; and the outputs that each label reaches at the depths up to e
+pub record Seen (N : Netlist) (labels : List ℕ) (e best : ℕ) (seen : List ℕ) (r : ℕ) : Type 0 where
+  pub lowest : LowestConflict N labels e best r
+  pub seen-now : SeenMasks N labels (e + 1) seen
 
 -- the lowest input whose branches with one label have two depths to one output; and the outputs that each label reaches
 pub record Evened (N : Netlist) (labels : List ℕ) (d : ℕ) (seen : List ℕ) (r : ℕ) : Type 0 where
