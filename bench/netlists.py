@@ -161,3 +161,17 @@ def two_depths():
     net = Net(4)
     changed = [net.add(XOR, i, net.add(DFF, i)) for i in range(4)]
     return net.file(changed + [net.add(OR, *changed)])
+
+
+CASES = {
+    "mul8": ("pipelined 8x8 multiplier", multiplier),
+    "rand1000": ("random, 1,000 cells", lambda: in_groups(2, 5, 12, 2, 940, 3, 60)),
+    "rand1000r": ("random, half untestable", lambda: in_groups(16, 4, 14, 1, 952, 4, 40)),
+    "full": ("1,024 cells and 4,096 pins, nearly all untestable", lambda: redundant(223, 60)),
+    "pipe255": ("255 flip-flops in a row", pipeline),
+    "c17": ("c17", c17),
+    "adder": ("4-bit adder between flip-flops", adder),
+    "decoder": ("3-to-8 decoder", decoder),
+    "parity": ("parity of 16", parity),
+    "changes": ("changes of 4 bits, class 2", two_depths),
+}

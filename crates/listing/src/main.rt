@@ -47,22 +47,6 @@ fn answer(r: Searched, play: &[u8], i: usize, d: usize, line: &mut [u8; 65536], 
     lines::text(line, used, b"\n");
 }
 
-// Fault k of the listing, nets before pins and stuck at 0 before 1.
-fn fault_at(nets: usize, k: usize) -> Fault {
-    let stuck = (k % 2) as u8;
-    let at = k / 2;
-    if at < nets {
-        return Fault {
-            site: Site::Net(at),
-            stuck: stuck,
-        };
-    }
-    Fault {
-        site: Site::Pin(at - nets),
-        stuck: stuck,
-    }
-}
-
 // The line of sizes.
 fn sizes(i: usize, c: usize, o: usize, s: Shape, line: &mut [u8; 65536], used: &mut usize) {
     lines::field(line, used, b"in ", i);
@@ -115,25 +99,52 @@ fn list(
         reached,
         &mut spots,
     );
-    for k in 0..2 * (i + c + n) {
-        let fault = fault_at(i + c, k);
+    let mut sites = [0u64; 5184];
+    let mut widths = [0u16; 64];
+    let mut best = [64u8; 10368];
+    let mut pat = [0u32; 10368];
+    let all = 2 * (i + c + n);
+    let wides = verdicts::judge(
+        0,
+        all,
+        i,
+        c,
+        o,
+        n,
+        s,
+        kinds,
+        counts,
+        firsts,
+        nets,
+        order,
+        branches,
+        block,
+        reached,
+        cone,
+        &mut sites,
+        &mut widths,
+        &mut best,
+        &mut pat,
+    );
+    for k in 0..all {
+        let fault = buffers::fault_at(i + c, k);
         name(fault, line, used);
-        let r = search::search_open(
+        let r = search::search_listed(
             i,
             c,
             o,
             n,
             s,
-            fault,
+            k,
             kinds,
             counts,
-            firsts,
             nets,
-            order,
-            branches,
-            block,
             reached,
-            cone,
+            wides,
+            &sites,
+            &widths,
+            &best,
+            &pat,
             &spots,
             play,
         );

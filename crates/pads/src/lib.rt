@@ -60,6 +60,28 @@ fn cell_sources(
     }
 }
 
+// The source of each net: the input that it is, or is the net of a pad buffer of. Any other net is its own source.
+pub fn sources(
+    i: usize,
+    c: usize,
+    o: usize,
+    kinds: &[u8; 1024],
+    counts: &[u8; 1024],
+    firsts: &[u16; 1025],
+    nets: &[u16; 4096],
+    order: &[u16; 1024],
+    table: &mut [u16],
+)
+    requires { ⌜ InLimits (tabled i c o (now kinds) (now counts) (now nets)) ⌝ }
+    requires { ⌜ FirstPins (tabled i c o (now kinds) (now counts) (now nets)) (now firsts) ⌝ }
+    requires { ⌜ Ordered (tabled i c o (now kinds) (now counts) (now nets)) (now order) ⌝ }
+    requires { ⌜ length (now table) ≡ 1088 ⌝ }
+    ensures { λ _. ⌜ SourceTable (tabled i c o (now (kinds .entry)) (now (counts .entry)) (now (nets .entry))) (now (table .exit)) ⌝ }
+{
+    input_sources(i, table);
+    cell_sources(i, c, o, kinds, counts, firsts, nets, order, table);
+}
+
 // The source of each pin's net.
 fn pin_sources(
     i: usize,
@@ -133,9 +155,8 @@ pub fn branches(
     requires { ⌜ Ordered (tabled i c o (now kinds) (now counts) (now nets)) (now order) ⌝ }
     ensures { λ _. ⌜ BranchTable (tabled i c o (now (kinds .entry)) (now (counts .entry)) (now (nets .entry))) (now (table .exit)) ⌝ }
 {
-    let mut sources = [0u16; 1088];
-    input_sources(i, &mut sources);
-    cell_sources(i, c, o, kinds, counts, firsts, nets, order, &mut sources);
-    pin_sources(i, c, o, n, kinds, counts, nets, &sources, table);
-    leave_out(i, c, o, n, kinds, counts, firsts, nets, &sources, table);
+    let mut origins = [0u16; 1088];
+    sources(i, c, o, kinds, counts, firsts, nets, order, &mut origins);
+    pin_sources(i, c, o, n, kinds, counts, nets, &origins, table);
+    leave_out(i, c, o, n, kinds, counts, firsts, nets, &origins, table);
 }

@@ -1,20 +1,25 @@
-// Searches a play for a fault: refuses, or walks the outputs and answers what the walk found.
+// Searches a play for a fault: refuses, or looks for it and answers what was found.
 ghost use mathlib.Core.Path.{_≡_};
 ghost use mathlib.Core.Logic.{_≢_};
 ghost use mathlib.Core.List.{List};
-ghost use Prim.Native.Nat.{ℕ, suc, _*_, _≤_};
+ghost use Prim.Native.Nat.{ℕ, _+_, _*_, _<_};
 ghost use Rattle.chip.specs.Inner.Tables.{tabled};
+ghost use Rattle.chip.specs.Netlist.{Netlist, InLimits, allPins};
 ghost use Rattle.chip.specs.Faults.{FaultIn};
 ghost use Rattle.fields.specs.Got.{got};
 ghost use Rattle.fields.specs.Format.{Parsed};
 ghost use Rattle.netlist.specs.Chip.{chipOf};
 ghost use Rattle.netlist.specs.Inner.Holds.{Holds};
 ghost use Rattle.structure.specs.Opens.{Opens};
-ghost use Rattle.walk.specs.Walk.{Ready, Walkable};
+ghost use Rattle.walk.specs.Walk.{Ready};
+ghost use Rattle.bridge.specs.Chunk.{faultNumber};
 ghost use Rattle.spots.specs.Spots.{Spots};
+ghost use Rattle.verdicts.specs.Verdicts.{Judged};
 ghost use Rattle.search.specs.Reply.{SearchReply};
 ghost use Rattle.search.specs.Inner.Answered.{Answered};
 use chip::Fault;
+use chip::Site;
+use chip::wide8;
 use netlist::Sizes;
 use netlist::Tables;
 use structure::Found;
@@ -28,80 +33,38 @@ pub enum Searched {
     Refused(u8, usize),
 }
 
-// Answers for a fault that is refused nothing: walks the outputs of the word.
-fn answer_narrow(
-    i: usize,
-    c: usize,
-    o: usize,
-    n: usize,
-    s: Shape,
-    fault: Fault,
-    outs: u64,
-    kinds: &[u8; 1024],
-    counts: &[u8; 1024],
-    firsts: &[u16; 1025],
-    nets: &[u16; 4096],
-    order: &[u16; 1024],
-    branches: &[u16; 4096],
-    block: &[u16; 4096],
-    reached: &[u64; 4160],
-    cone: &[u64; 4096],
-    room: usize,
-) -> Searched
-    requires { ⌜ Ready (tabled i c o (now kinds) (now counts) (now nets)) n s (now firsts) (now order) (now branches) (now block) (now reached) (now cone) ⌝ }
-    requires { ⌜ Walkable (tabled i c o (now kinds) (now counts) (now nets)) s fault outs (now reached) ⌝ }
-    requires { ⌜ FaultIn (tabled i c o (now kinds) (now counts) (now nets)) fault × (suc (s .depth) * i ≤ room) ⌝ }
-    ensures { λ r. ⌜ Answered (tabled i c o (now (kinds .entry)) (now (counts .entry)) (now (nets .entry))) s fault (now (reached .entry)) room r ⌝ }
+// The number of a pattern.
+fn number(x: u32) -> usize
+    ensures { λ r. ⌜ (r ≡ x) × (r < 4294967296) ⌝ }
 {
-    match walk::walk_outputs(
-        i,
-        c,
-        o,
-        n,
-        s,
-        fault,
-        outs,
-        kinds,
-        counts,
-        firsts,
-        nets,
-        order,
-        branches,
-        block,
-        reached,
-        cone,
-    ) {
-        Walk::Missed(k) => Searched::Untestable(k),
-        Walk::Hit(z, m, k) => Searched::Found(z, m, k),
-    }
+    x as usize
 }
 
-// Answers for a fault of the netlist on a chip of class 2 or 3, or refuses: 16, 15.
-fn answer_even(
+// Answers for fault f of a chip of class 2 or 3, which was looked for, with room for so many bytes of a play, or refuses: 16, 15.
+fn answer_judged(
     i: usize,
     c: usize,
     o: usize,
     n: usize,
     s: Shape,
-    fault: Fault,
+    f: usize,
     kinds: &[u8; 1024],
     counts: &[u8; 1024],
-    firsts: &[u16; 1025],
     nets: &[u16; 4096],
-    order: &[u16; 1024],
-    branches: &[u16; 4096],
-    block: &[u16; 4096],
     reached: &[u64; 4160],
-    cone: &[u64; 4096],
+    wides: u64,
+    sites: &[u64],
+    widths: &[u16; 64],
+    best: &[u8],
+    pat: &[u32],
     room: usize,
 ) -> Searched
-    requires { ⌜ Ready (tabled i c o (now kinds) (now counts) (now nets)) n s (now firsts) (now order) (now branches) (now block) (now reached) (now cone) ⌝ }
-    requires { ⌜ (s .class ≢ 1) × FaultIn (tabled i c o (now kinds) (now counts) (now nets)) fault ⌝ }
-    ensures { λ r. ⌜ Answered (tabled i c o (now (kinds .entry)) (now (counts .entry)) (now (nets .entry))) s fault (now (reached .entry)) room r ⌝ }
+    requires { ⌜ ((firsts : List ℕ) × (order : List ℕ) × (branches : List ℕ) × (block : List ℕ) × (cone : List ℕ) × Ready (tabled i c o (now kinds) (now counts) (now nets)) n s firsts order branches block (now reached) cone) ⌝ }
+    requires { ⌜ (s .class ≢ 1) × Judged i c o n (s .blocks) f wides (now kinds) (now counts) (now nets) (now reached) (now sites) (now widths) (now best) (now pat) ⌝ }
+    ensures { λ r. ⌜ Answered (tabled i c o (now (kinds .entry)) (now (counts .entry)) (now (nets .entry))) s (faultNumber (i + c) f) (now (reached .entry)) room r ⌝ }
 {
-    let site = fault.site;
-    let outs = walk::site_outputs(n, nets, cone, site);
-    let y = walk::too_wide(o, s.blocks, outs, reached);
+    let outs = sites[f / 2];
+    let y = verdicts::first_wide(o, outs, wides);
     if y < o {
         return Searched::Refused(16, y);
     }
@@ -109,14 +72,47 @@ fn answer_even(
     if room < long {
         return Searched::Refused(15, long);
     }
-    answer_narrow(
+    match verdicts::verdict(o, outs, wide8(best[f]), number(pat[f]), widths) {
+        Walk::Missed(k) => Searched::Untestable(k),
+        Walk::Hit(z, m, k) => Searched::Found(z, m, k),
+    }
+}
+
+// Looks for fault f alone, and answers or refuses: 16, 15.
+fn answer_alone(
+    i: usize,
+    c: usize,
+    o: usize,
+    n: usize,
+    s: Shape,
+    f: usize,
+    kinds: &[u8; 1024],
+    counts: &[u8; 1024],
+    firsts: &[u16; 1025],
+    nets: &[u16; 4096],
+    order: &[u16; 1024],
+    branches: &[u16; 4096],
+    block: &[u16; 4096],
+    reached: &[u64; 4160],
+    cone: &[u64; 4096],
+    room: usize,
+) -> Searched
+    requires { ⌜ Ready (tabled i c o (now kinds) (now counts) (now nets)) n s (now firsts) (now order) (now branches) (now block) (now reached) (now cone) ⌝ }
+    requires { ⌜ (s .class ≢ 1) × (f < 2 * (i + c + n)) ⌝ }
+    ensures { λ r. ⌜ Answered (tabled i c o (now (kinds .entry)) (now (counts .entry)) (now (nets .entry))) s (faultNumber (i + c) f) (now (reached .entry)) room r ⌝ }
+{
+    let mut sites = [0u64; 5184];
+    let mut widths = [0u16; 64];
+    let mut best = [64u8; 10368];
+    let mut pat = [0u32; 10368];
+    let wides = verdicts::judge(
+        f,
+        f + 1,
         i,
         c,
         o,
         n,
         s,
-        fault,
-        outs,
         kinds,
         counts,
         firsts,
@@ -126,8 +122,42 @@ fn answer_even(
         block,
         reached,
         cone,
+        &mut sites,
+        &mut widths,
+        &mut best,
+        &mut pat,
+    );
+    answer_judged(
+        i,
+        c,
+        o,
+        n,
+        s,
+        f,
+        kinds,
+        counts,
+        nets,
+        reached,
+        wides,
+        &sites,
+        &widths,
+        &best,
+        &pat,
         room,
     )
+}
+
+// The number of a fault of a chip with so many nets: those of the nets come first, and stuck at 0 before 1.
+fn fault_number(nets: usize, fault: Fault) -> usize
+    requires { ⌜ ((N : Netlist) × (nets ≡ N .inputs + N .cells) × InLimits N × FaultIn N fault) ⌝ }
+    ensures { λ r. ⌜ ((N : Netlist) → nets ≡ N .inputs + N .cells → FaultIn N fault → (faultNumber nets r ≡ fault) × (r < 2 * (nets + allPins N))) ⌝ }
+{
+    let stuck = wide8(fault.stuck);
+    let site = fault.site;
+    match site {
+        Site::Net(x) => 2 * x + stuck,
+        Site::Pin(p) => 2 * (nets + p) + stuck,
+    }
 }
 
 // Answers for a fault on a chip that is prepared, with room for so many bytes of a play, or refuses: 12, 11, 16, 15. The play of a pattern that is found is left to be set.
@@ -158,13 +188,14 @@ fn answer(
     if s.class == 1 {
         return Searched::Refused(11, s.place);
     }
-    answer_even(
+    let f = fault_number(i + c, fault);
+    answer_alone(
         i,
         c,
         o,
         n,
         s,
-        fault,
+        f,
         kinds,
         counts,
         firsts,
@@ -245,47 +276,48 @@ fn search_chip(
     }
 }
 
-// Does the same on a chip whose spots are worked out, for many faults one after the other.
-pub fn search_open(
+// Searches a play for fault f of a chip of class 2 or 3, which was looked for, by the spots of the chip, or refuses: 16, 15.
+pub fn search_listed(
     i: usize,
     c: usize,
     o: usize,
     n: usize,
     s: Shape,
-    fault: Fault,
+    f: usize,
     kinds: &[u8; 1024],
     counts: &[u8; 1024],
-    firsts: &[u16; 1025],
     nets: &[u16; 4096],
-    order: &[u16; 1024],
-    branches: &[u16; 4096],
-    block: &[u16; 4096],
     reached: &[u64; 4160],
-    cone: &[u64; 4096],
+    wides: u64,
+    sites: &[u64],
+    widths: &[u16; 64],
+    best: &[u8],
+    pat: &[u32],
     spots: &[u16; 1024],
     play: &mut [u8],
 ) -> Searched
-    requires { ⌜ Ready (tabled i c o (now kinds) (now counts) (now nets)) n s (now firsts) (now order) (now branches) (now block) (now reached) (now cone) ⌝ }
+    requires { ⌜ ((firsts : List ℕ) × (order : List ℕ) × (branches : List ℕ) × (block : List ℕ) × (cone : List ℕ) × Ready (tabled i c o (now kinds) (now counts) (now nets)) n s firsts order branches block (now reached) cone) ⌝ }
+    requires { ⌜ (s .class ≢ 1) × Judged i c o n (s .blocks) f wides (now kinds) (now counts) (now nets) (now reached) (now sites) (now widths) (now best) (now pat) ⌝ }
     requires { ⌜ Spots (tabled i c o (now kinds) (now counts) (now nets)) (s .depth) (now reached) (now spots) ⌝ }
     ensures { λ r. ⌜ ((file : List ℕ) (x : Parsed) → Opens file (got x) → tabled i c o (now (kinds .entry)) (now (counts .entry)) (now (nets .entry)) ≡ chipOf x
-        → SearchReply file fault (now (play .entry)) r (now (play .exit))) ⌝ }
+        → SearchReply file (faultNumber (i + c) f) (now (play .entry)) r (now (play .exit))) ⌝ }
 {
-    match answer(
+    match answer_judged(
         i,
         c,
         o,
         n,
         s,
-        fault,
+        f,
         kinds,
         counts,
-        firsts,
         nets,
-        order,
-        branches,
-        block,
         reached,
-        cone,
+        wides,
+        sites,
+        widths,
+        best,
+        pat,
         play.len(),
     ) {
         Searched::Refused(k, p) => Searched::Refused(k, p),

@@ -16,7 +16,7 @@ use Rattle.chip.specs.Search.{digit}
 use Rattle.chip.proofs.Basics.{reach-in, reach-out}
 use Rattle.chip.proofs.Bools.{clash, passes}
 use Rattle.levels.specs.Levels.{PinMasks}
-use Rattle.trials.specs.Trials.{relOf}
+use Rattle.slots.specs.Slots.{relOf}
 use Rattle.words.proofs.Bits.{digit-zero}
 use Rattle.spots.specs.Marks.{Changed, BlockMark, RowMark, ListMark, SpotMark, PinMark, LevelMark, DepthMark, OneMark}
 

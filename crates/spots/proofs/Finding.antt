@@ -22,7 +22,7 @@ use Rattle.chip.proofs.Unique.{one-low}
 use Rattle.structure.specs.declared.Shape.{Shape}
 use Rattle.sweeps.specs.Swept.{Even}
 use Rattle.sweeps.proofs.Tables.{even-balanced, even-table}
-use Rattle.trials.specs.Trials.{relOf}
+use Rattle.slots.specs.Slots.{relOf}
 use Rattle.walk.specs.Walk.{Ready}
 use Rattle.walk.proofs.Playing.{ready-even}
 use Rattle.spots.specs.Marks.{Changed, ListMark, DepthMark}

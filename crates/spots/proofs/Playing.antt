@@ -22,8 +22,8 @@ use Rattle.chip.proofs.Unique.{one-low}
 use Rattle.plays.proofs.Parts.{clock-up}
 use Rattle.sweeps.specs.Copied.{Cleared}
 use Rattle.sweeps.proofs.Sweeping.{wrote}
-use Rattle.trials.specs.Trials.{relOf}
-use Rattle.trials.proofs.Tables.{passing}
+use Rattle.slots.specs.Slots.{relOf}
+use Rattle.slots.proofs.Tables.{passing}
 use Rattle.walk.specs.Walk.{widthOf, Played}
 use Rattle.words.proofs.Bits.{digit-zero}
 use Rattle.spots.specs.Marks.{Changed, OneMark}

@@ -9,7 +9,7 @@ use Rattle.chip.specs.Netlist.{Netlist}
 use Rattle.chip.specs.Pads.{branchOf}
 use Rattle.chip.specs.Class.{Reach, tally}
 use Rattle.chip.specs.Search.{digit}
-use Rattle.trials.specs.Trials.{relOf}
+use Rattle.slots.specs.Slots.{relOf}
 
 -- an entry with a mark has a value that is marked for it, and every other entry stays
 pub record Changed (Mark : ℕ → ℕ → Type 0) (entry exit : List ℕ) : Type 0 where

@@ -8,7 +8,7 @@ use Rattle.chip.specs.Netlist.{Netlist}
 use Rattle.chip.specs.Class.{Lowest, blocks, tally}
 use Rattle.chip.specs.Clocks.{BlockAt}
 use Rattle.structure.specs.declared.Shape.{Shape}
-use Rattle.trials.specs.Trials.{relOf}
+use Rattle.slots.specs.Slots.{relOf}
 use Rattle.walk.specs.Walk.{Ready, widthOf}
 
 -- entry 16 z + k is the place of variable k of a pattern for output z: that of its block's input at clock d - e, e the depth with which the block reaches z

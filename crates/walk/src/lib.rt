@@ -1,29 +1,21 @@
-// Walks the outputs that a fault's site reaches: pattern after pattern, output after output, and the play of a hit.
+// What a walk over the outputs that a fault's site reaches stands on: the outputs that each pin reaches, how wide they are, and the play of a hit.
 ghost use mathlib.Core.Path.{_≡_};
 ghost use mathlib.Core.Logic.{_≢_};
 ghost use mathlib.Core.List.{List};
-ghost use Prim.Native.Nat.{ℕ, suc, _*_, _^_, _≤_, _<_};
+ghost use Prim.Native.Nat.{ℕ, suc, _*_, _≤_, _<_};
 ghost use lib.ListN.{length, getD};
-ghost use Rattle.chip.specs.Netlist.{Netlist, allPins, bit, InLimits};
+ghost use Rattle.chip.specs.Netlist.{bit, InLimits};
 ghost use Rattle.chip.specs.Inner.Tables.{tabled, FirstPins};
 ghost use Rattle.chip.specs.Class.{Lowest, blocks};
 ghost use Rattle.chip.specs.Transformed.{flat};
-ghost use Rattle.chip.specs.Faults.{SiteIn, stuck};
-ghost use Rattle.chip.specs.declared.Site.the-variants.{Net};
-ghost use Rattle.chip.specs.Search.{SiteReaches, digit};
+ghost use Rattle.chip.specs.Search.{digit};
 ghost use Rattle.order.specs.Order.{Ordered};
-ghost use Rattle.levels.specs.Levels.{Mask};
-ghost use Rattle.faults.specs.Decided.{Decided};
-ghost use Rattle.trials.specs.Trials.{ReachMasks};
-ghost use Rattle.walk.specs.Walk.{Ready, widthOf, TooWide, Walkable, WalkIs, PatternBytes, Played};
-use chip::Fault;
-use chip::Site;
+ghost use Rattle.slots.specs.Slots.{ReachMasks};
+ghost use Rattle.walk.specs.Walk.{Ready, widthOf, PatternBytes, Played};
 use chip::flat_kind;
-use chip::wide;
 use structure::Shape;
-use trials::Trial;
 
-// What the walk answers: the output, the pattern's number and the tries of the first hit, or the tries without one.
+// What a walk answers: the output, the pattern's number and the tries of the first hit, or the tries without one.
 pub enum Walk {
     Hit(usize, usize, usize),
     Missed(usize),
@@ -78,40 +70,8 @@ pub fn reach_masks(
     );
 }
 
-// The outputs that some pin that names the net reaches.
-fn net_outputs(n: usize, nets: &[u16; 4096], cone: &[u64; 4096], net: usize) -> u64
-    requires { ⌜ n ≤ 4096 ⌝ }
-    ensures { λ r. ⌜ ((N : Netlist) → n ≡ allPins N → ((p : ℕ) → N .net p ≡ getD (now (nets .entry)) p 0) → ReachMasks N (now (cone .entry)) → Mask (N .outs) r (SiteReaches N (Net net))) ⌝ }
-{
-    let mut all = 0u64;
-    let mut p = 0;
-    while p < n {
-        if wide(nets[p]) == net {
-            all = all | cone[p];
-        }
-        p += 1;
-    }
-    all
-}
-
-// The outputs that the site reaches.
-pub fn site_outputs(n: usize, nets: &[u16; 4096], cone: &[u64; 4096], site: Site) -> u64
-    requires { ⌜ n ≤ 4096 ⌝ }
-    ensures { λ r. ⌜ ((N : Netlist) → n ≡ allPins N → SiteIn N site → ((p : ℕ) → N .net p ≡ getD (now (nets .entry)) p 0) → ReachMasks N (now (cone .entry)) → Mask (N .outs) r (SiteReaches N site)) ⌝ }
-{
-    match site {
-        Site::Net(k) => net_outputs(n, nets, cone, k),
-        Site::Pin(p) => {
-            if n <= p {
-                return 0;
-            }
-            cone[p]
-        }
-    }
-}
-
 // How many of the first b blocks reach output z.
-fn width_of(b: usize, z: usize, reached: &[u64; 4160]) -> usize
+pub fn width_of(b: usize, z: usize, reached: &[u64; 4160]) -> usize
     requires { ⌜ (b ≤ 4160) × (z < 64) ⌝ }
     ensures { λ r. ⌜ r ≡ widthOf b (now (reached .entry)) z ⌝ }
 {
@@ -124,151 +84,6 @@ fn width_of(b: usize, z: usize, reached: &[u64; 4160]) -> usize
         k += 1;
     }
     w
-}
-
-// The lowest of the o outputs that is in the word and has more than 16 blocks behind it, or o.
-pub fn too_wide(o: usize, b: usize, outs: u64, reached: &[u64; 4160]) -> usize
-    requires { ⌜ (o ≤ 64) × (b ≤ 4160) ⌝ }
-    ensures { λ r. ⌜ TooWide o b outs (now (reached .entry)) r ⌝ }
-{
-    let mut z = 0;
-    while z < o {
-        if words::has_bit(outs, z) {
-            if 16 < width_of(b, z, reached) {
-                return z;
-            }
-        }
-        z += 1;
-    }
-    z
-}
-
-// How many patterns there are for output z, of which at most 16 blocks reach it.
-fn pattern_count(b: usize, z: usize, reached: &[u64; 4160]) -> usize
-    requires { ⌜ (b ≤ 4160) × (z < 64) × (widthOf b (now reached) z ≤ 16) ⌝ }
-    ensures { λ r. ⌜ (r ≡ 2 ^ widthOf b (now (reached .entry)) z) × (r ≤ 65536) ⌝ }
-{
-    let w = width_of(b, z, reached);
-    1usize << w
-}
-
-// Tries the outputs of the word, lowest first, and counts the tries: up to and including the first hit, or all. The table has what the fault decides each pin to.
-fn try_outputs(
-    i: usize,
-    c: usize,
-    o: usize,
-    n: usize,
-    s: Shape,
-    outs: u64,
-    kinds: &[u8; 1024],
-    counts: &[u8; 1024],
-    firsts: &[u16; 1025],
-    nets: &[u16; 4096],
-    order: &[u16; 1024],
-    branches: &[u16; 4096],
-    block: &[u16; 4096],
-    reached: &[u64; 4160],
-    cone: &[u64; 4096],
-    decided: &[u8; 4096],
-) -> Walk
-    requires { ⌜ Ready (tabled i c o (now kinds) (now counts) (now nets)) n s (now firsts) (now order) (now branches) (now block) (now reached) (now cone) ⌝ }
-    requires { ⌜ ((fault : Fault) × Walkable (tabled i c o (now kinds) (now counts) (now nets)) s fault outs (now reached) × Decided (tabled i c o (now kinds) (now counts) (now nets)) (stuck fault) (now decided)) ⌝ }
-    ensures { λ r. ⌜ ((low : ℕ → ℕ) (fault : Fault) → Lowest (tabled i c o (now (kinds .entry)) (now (counts .entry)) (now (nets .entry))) low → Decided (tabled i c o (now (kinds .entry)) (now (counts .entry)) (now (nets .entry))) (stuck fault) (now (decided .entry))
-        → WalkIs (tabled i c o (now (kinds .entry)) (now (counts .entry)) (now (nets .entry)))
-        (blocks (tabled i c o (now (kinds .entry)) (now (counts .entry)) (now (nets .entry))) low) fault outs (now (reached .entry)) r) ⌝ }
-{
-    let mut tries = 0;
-    let mut z = 0;
-    while z < o {
-        if words::has_bit(outs, z) {
-            match trials::try_output(
-                i,
-                c,
-                o,
-                n,
-                z,
-                s.blocks,
-                kinds,
-                counts,
-                firsts,
-                nets,
-                order,
-                branches,
-                block,
-                reached,
-                cone,
-                decided,
-            ) {
-                Trial::Shows(m) => {
-                    return Walk::Hit(z, m, tries + (m + 1));
-                }
-                Trial::Never => {}
-            }
-            tries += pattern_count(s.blocks, z, reached);
-        }
-        z += 1;
-    }
-    Walk::Missed(tries)
-}
-
-// Walks the outputs of the word for a fault. What it decides each pin to is worked out once, and not for each output.
-pub fn walk_outputs(
-    i: usize,
-    c: usize,
-    o: usize,
-    n: usize,
-    s: Shape,
-    fault: Fault,
-    outs: u64,
-    kinds: &[u8; 1024],
-    counts: &[u8; 1024],
-    firsts: &[u16; 1025],
-    nets: &[u16; 4096],
-    order: &[u16; 1024],
-    branches: &[u16; 4096],
-    block: &[u16; 4096],
-    reached: &[u64; 4160],
-    cone: &[u64; 4096],
-) -> Walk
-    requires { ⌜ Ready (tabled i c o (now kinds) (now counts) (now nets)) n s (now firsts) (now order) (now branches) (now block) (now reached) (now cone) ⌝ }
-    requires { ⌜ Walkable (tabled i c o (now kinds) (now counts) (now nets)) s fault outs (now reached) ⌝ }
-    ensures { λ r. ⌜ ((low : ℕ → ℕ) → Lowest (tabled i c o (now (kinds .entry)) (now (counts .entry)) (now (nets .entry))) low
-        → WalkIs (tabled i c o (now (kinds .entry)) (now (counts .entry)) (now (nets .entry)))
-        (blocks (tabled i c o (now (kinds .entry)) (now (counts .entry)) (now (nets .entry))) low) fault outs (now (reached .entry)) r) ⌝ }
-{
-    let mut decided = [2u8; 4096];
-    faults::decided(
-        i,
-        c,
-        o,
-        n,
-        kinds,
-        counts,
-        firsts,
-        nets,
-        order,
-        branches,
-        fault,
-        &mut decided,
-    );
-    try_outputs(
-        i,
-        c,
-        o,
-        n,
-        s,
-        outs,
-        kinds,
-        counts,
-        firsts,
-        nets,
-        order,
-        branches,
-        block,
-        reached,
-        cone,
-        &decided,
-    )
 }
 
 // The byte of bit w of a number.

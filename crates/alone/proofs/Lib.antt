@@ -1,0 +1,5 @@
+pub mod Steps
+pub mod Runs
+pub mod Outs
+pub mod Inputs
+pub mod Reading

@@ -1,0 +1,174 @@
+// The tables that a group of outputs is tried on: those of the chip, which no group changes, and those of the group.
+ghost use mathlib.Core.Path.{_≡_};
+ghost use Prim.Native.Nat.{ℕ, _+_, _-_, _≤_, _<_};
+ghost use lib.ListN.{length, getD};
+ghost use Rattle.chip.specs.Netlist.{allPins, InLimits};
+ghost use Rattle.chip.specs.Inner.Tables.{tabled, FirstPins, BranchTable};
+ghost use Rattle.chip.specs.Class.{tally};
+ghost use Rattle.order.specs.Order.{Ordered};
+ghost use Rattle.pads.specs.Sources.{SourceTable};
+ghost use Rattle.slots.specs.Slots.{relOf, Laid};
+ghost use Rattle.readers.specs.Readers.{Heads};
+ghost use Rattle.stages.specs.Stage.{Watch};
+ghost use Rattle.benches.specs.Benches.{Blocked, BlockInputs, Fitted, Opened, BlockList, OutSlots, Benched};
+use chip::wide;
+use chip::wide8;
+
+// The input of each block, by the n pins.
+fn block_inputs(i: usize, n: usize, branches: &[u16; 4096], block: &[u16; 4096], input: &mut [u8])
+    requires { ⌜ Blocked i n (now branches) (now block) × (length (now input) ≡ 4160) ⌝ }
+    ensures { λ _. ⌜ BlockInputs i n (now (branches .entry)) (now (block .entry)) (now (input .exit)) ⌝ }
+{
+    for p in 0..n {
+        if wide(branches[p]) < i {
+            input[wide(block[p])] = branches[p] as u8;
+        }
+    }
+}
+
+// The blocks of the b that reach output z, in order.
+fn block_list(z: usize, b: usize, reached: &[u64; 4160], list: &mut [u16])
+    requires { ⌜ (z < 64) × (b ≤ 4160) × (tally (relOf (now reached) z) b ≤ 16) × (length (now list) ≡ 16) ⌝ }
+    ensures { λ _. ⌜ BlockList b (relOf (now (reached .entry)) z) (now (list .exit)) ⌝ }
+{
+    let mut w = 0;
+    let mut k = 0;
+    while k < b {
+        if words::has_bit(reached[k], z) {
+            list[w] = k as u16;
+            w += 1;
+        }
+        k += 1;
+    }
+}
+
+// The outputs left to the faults of cell j, or none if it is a pad buffer.
+fn open_of(
+    i: usize,
+    c: usize,
+    j: usize,
+    counts: &[u8; 1024],
+    firsts: &[u16; 1025],
+    sources: &[u16],
+    left: &[u64],
+) -> u64
+    requires { ⌜ (i ≤ 64) × (c ≤ 1024) × (j < c) × (length (now sources) ≡ 1088) × (length (now left) ≡ 10368) ⌝ }
+    requires { ⌜ getD (now firsts) j 0 + getD (now counts) j 0 ≤ 4096 ⌝ }
+    ensures { λ r. ⌜ Opened i c j (now (counts .entry)) (now (firsts .entry)) (now (sources .entry)) (now (left .entry)) r ⌝ }
+{
+    if wide(sources[i + j]) < i {
+        return 0;
+    }
+    places::left_at(i + j, i + c + wide(firsts[j]), wide8(counts[j]), left)
+}
+
+// The outputs left to the faults of each place before the first group.
+pub fn start_groups(
+    i: usize,
+    c: usize,
+    o: usize,
+    kinds: &[u8; 1024],
+    counts: &[u8; 1024],
+    firsts: &[u16; 1025],
+    nets: &[u16; 4096],
+    order: &[u16; 1024],
+    sources: &[u16],
+    left: &[u64],
+    groups: &mut [u64],
+)
+    requires { ⌜ InLimits (tabled i c o (now kinds) (now counts) (now nets)) ⌝ }
+    requires { ⌜ FirstPins (tabled i c o (now kinds) (now counts) (now nets)) (now firsts) ⌝ }
+    requires { ⌜ Ordered (tabled i c o (now kinds) (now counts) (now nets)) (now order) ⌝ }
+    requires { ⌜ SourceTable (tabled i c o (now kinds) (now counts) (now nets)) (now sources) ⌝ }
+    requires { ⌜ (length (now left) ≡ 10368) × (length (now groups) ≡ 1024) ⌝ }
+    ensures { λ _. ⌜ Watch i c (tabled i c o (now (kinds .entry)) (now (counts .entry)) (now (nets .entry))) (now (counts .entry)) (now (firsts .entry)) (now (order .entry)) (now (left .entry)) (now (groups .exit)) ⌝ }
+{
+    for t in 0..c {
+        groups[t] = open_of(i, c, wide(order[t]), counts, firsts, sources, left);
+    }
+}
+
+// The slots of the o outputs, whose pins are the last of n.
+fn out_slots(o: usize, n: usize, src: &[u16; 4096], outs: &mut [u16])
+    requires { ⌜ (o ≤ 64) × (o ≤ n) × (n ≤ 4096) × OutSlots 0 o n (now src) (now outs) ⌝ }
+    ensures { λ _. ⌜ OutSlots o o n (now (src .entry)) (now (outs .exit)) ⌝ }
+{
+    for y in 0..o {
+        outs[y] = src[n - o + y];
+    }
+}
+
+// The tables of a group that output z is one of. Answers how many variables there are.
+pub fn bench(
+    z: usize,
+    i: usize,
+    o: usize,
+    n: usize,
+    b: usize,
+    nets: &[u16; 4096],
+    branches: &[u16; 4096],
+    block: &[u16; 4096],
+    reached: &[u64; 4160],
+    src: &mut [u16; 4096],
+    outs: &mut [u16],
+    list: &mut [u16],
+) -> usize
+    requires { ⌜ Heads i n (now branches) (now nets) (now block) ⌝ }
+    requires { ⌜ (z < o) × (o ≤ 64) × (o ≤ n) × (b ≤ 4160) × (tally (relOf (now reached) z) b ≤ 16) ⌝ }
+    requires { ⌜ (length (now outs) ≡ 64) × ((y : ℕ) → getD (now outs) y 0 ≡ 0) × (length (now list) ≡ 16) ⌝ }
+    ensures { λ r. ⌜ Benched z i o n b r (now (nets .entry)) (now (branches .entry)) (now (block .entry)) (now (reached .entry)) (now (src .exit)) (now (outs .exit)) (now (list .exit)) ⌝ }
+{
+    let mut slots = [0u16; 4160];
+    let w = slots::variables(z, b, reached, &mut slots);
+    slots::pin_slots(i, n, &slots, branches, nets, block, src);
+    out_slots(o, n, src, outs);
+    block_list(z, b, reached, list);
+    w
+}
+
+// The tables of a chip whose blocks are numbered. There are as many readers as pins of cells.
+pub fn chip_tables(
+    i: usize,
+    c: usize,
+    o: usize,
+    n: usize,
+    kinds: &[u8],
+    counts: &[u8; 1024],
+    firsts: &[u16; 1025],
+    nets: &[u16; 4096],
+    order: &[u16; 1024],
+    branches: &[u16; 4096],
+    block: &[u16; 4096],
+    cone: &[u64; 4096],
+    reach: &mut [u64],
+    heads: &mut [u16],
+    readers: &mut [u16],
+    input: &mut [u8],
+)
+    requires { ⌜ InLimits (tabled i c o (now kinds) (now counts) (now nets)) ⌝ }
+    requires { ⌜ n ≡ allPins (tabled i c o (now kinds) (now counts) (now nets)) ⌝ }
+    requires { ⌜ FirstPins (tabled i c o (now kinds) (now counts) (now nets)) (now firsts) ⌝ }
+    requires { ⌜ Ordered (tabled i c o (now kinds) (now counts) (now nets)) (now order) ⌝ }
+    requires { ⌜ BranchTable (tabled i c o (now kinds) (now counts) (now nets)) (now branches) ⌝ }
+    requires { ⌜ ((b : ℕ) × (b ≤ 4160) × ((low : ℕ → ℕ) × Laid (tabled i c o (now kinds) (now counts) (now nets)) b (now block) low)) ⌝ }
+    requires { ⌜ (length (now kinds) ≡ 1024) × (length (now reach) ≡ 1024) × (length (now input) ≡ 4160) ⌝ }
+    requires { ⌜ (length (now heads) ≡ 5185) × ((x : ℕ) → getD (now heads) x 0 ≡ 0) ⌝ }
+    requires { ⌜ (length (now readers) ≡ n - o) × ((x : ℕ) → getD (now readers) x 0 ≡ 0) ⌝ }
+    ensures { λ _. ⌜ Fitted i c o n (now (kinds .entry)) (now (counts .entry)) (now (firsts .entry)) (now (nets .entry)) (now (order .entry)) (now (branches .entry)) (now (block .entry)) (now (cone .entry)) (now (reach .exit)) (now (heads .exit)) (now (readers .exit)) (now (input .exit)) ⌝ }
+{
+    readers::reaches(c, firsts, order, cone, reach);
+    readers::build(
+        i,
+        c,
+        n - o,
+        counts,
+        firsts,
+        branches,
+        nets,
+        order,
+        block,
+        heads,
+        readers,
+    );
+    block_inputs(i, n, branches, block, input);
+}

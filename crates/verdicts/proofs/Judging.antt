@@ -1,0 +1,142 @@
+-- The tables of words before the first group, what is looked for, and the answers from what was found.
+use Prim.Native.Nat.{ℕ, _+_, _-_, _*_, _/_, _^_, _≤_, _<_}
+use mathlib.Core.Path.{_≡_, sym, ap, _∙_, subst}
+use mathlib.Core.Logic.{_≢_}
+use mathlib.Core.Bool.{true, false, cond, false≢true}
+use mathlib.Core.List.{List}
+use native.Mathlib.Omega.{arith}
+use native.Mathlib.Decide.{ℕ-discrete, decLt}
+use borrow.Author.Tests.{le-ltb}
+use lib.ListN.{length, getD}
+use lib.Bits.{bitAnd, and-le-l}
+use Rattle.chip.specs.Netlist.{Netlist, outPin, allPins, InLimits}
+use Rattle.chip.specs.Inner.Tables.{tabled}
+use Rattle.chip.specs.Class.{Reach, here, on}
+use Rattle.chip.specs.Search.{digit, SiteReaches}
+use Rattle.chip.specs.declared.Site.the-variants.{Net, Pin}
+use Rattle.words.specs.Bits.{LowestBit}
+use Rattle.words.proofs.Bits.{digit-zero, word-zero}
+use Rattle.rows.specs.Rows.{Filled}
+use Rattle.flip.proofs.Flips.{no-out}
+use Rattle.slots.specs.Slots.{relOf}
+use Rattle.walk.specs.Walk.{outOf, widthOf, TooWide}
+use Rattle.known.specs.Setting.{Shows}
+use Rattle.rows.proofs.Bits.{split, meet}
+use Rattle.groups.specs.Groups.{Sofar}
+use Rattle.groups.specs.Chunks.{Store}
+use Rattle.verdicts.specs.Verdicts.{SiteMasks, Widths, WideWord, Started, sizeOf, Sought, AllSofar, Judged}
+
+-- two tables of zeros with the ones in their slot
+pub store-blank : (c : ℕ) (a goods vals : List ℕ) → length a ≡ 16672 → ((x : ℕ) → getD a x 0 ≡ 0) → Filled 16656 16 (λ k. 2 ^ 64 - 1) a goods → Filled 16656 16 (λ k. 2 ^ 64 - 1) a vals → Store c goods vals
+store-blank c a goods vals l z F G =
+    record {
+      words = F .long ∙ l;
+      runs = G .long ∙ l;
+      zeros = λ k h. F .below (16 * 1040 + k) (omega arith) ∙ z (16 * 1040 + k);
+      ones = λ k h. let e : 16 * 1041 + k ≡ 16656 + k = omega arith in ap (λ x. getD goods x 0) e ∙ F .done k h;
+      beyond = λ x h. elim (decLt x 16656) [
+        | yes b ↦ G .below x b ∙ sym (F .below x b)
+        | no g ↦ elim (decLt x 16672) [
+          | yes b ↦
+              let e : 16656 + (x - 16656) ≡ x = omega arith in
+              ap (λ y. getD vals y 0) (sym e) ∙ G .done (x - 16656) (omega arith) ∙ sym (F .done (x - 16656) (omega arith)) ∙ ap (λ y. getD goods y 0) e
+          | no f ↦ G .above x (omega arith) ∙ sym (F .above x (omega arith))
+        ]
+      ];
+    }
+
+-- ---- the lowest wide output
+
+module _ (o b outs wides : ℕ) (reached widths : List ℕ) (W : Widths o b reached widths) (D : WideWord o widths wides) where
+  -- an output that is not in both words is not wide
+  not-wide : (y : ℕ) → y < o → outOf outs y ≡ true → digit y (bitAnd outs wides) ≡ false → widthOf b reached y ≤ 16
+  not-wide y l d e = elim (decLt 16 (widthOf b reached y)) [
+    | yes h ↦ absurd (false≢true (sym e ∙ meet outs wides y d (D .all y l (omega (arith, W .at y l)))))
+    | no g ↦ omega arith
+  ]
+
+  pub wide-in-none : bitAnd outs wides ≡ 0 → TooWide o b outs reached o
+  wide-in-none e =
+      record { upto = omega arith; in-word = λ l. absurd (omega arith); wide = λ l. absurd (omega arith); none-below = λ y l d. not-wide y l d (ap (digit y) e ∙ digit-zero y) }
+
+  pub wide-first : (r : ℕ) → outs < 2 ^ 64 → bitAnd outs wides ≢ 0 → LowestBit (bitAnd outs wides) r → TooWide o b outs reached r
+  wide-first r l g L =
+      let low : r < 64 = elim (decLt r 64) [
+        | yes h ↦ h
+        | no n ↦ absurd (g (word-zero (bitAnd outs wides) (omega (arith, and-le-l outs wides)) (λ k h. L .zeros k (omega arith))))
+      ] in
+      let both = split outs wides r (L .one low) in
+      let it-is = D .wide r (both .1) in
+      record {
+        upto = omega (arith, it-is .0);
+        in-word = λ h. both .0;
+        wide = λ h. omega (arith, it-is .1, W .at r h);
+        none-below = λ y h d. not-wide y (omega (arith, it-is .0)) d (L .zeros y h);
+      }
+
+-- ---- what is looked for
+
+-- an output's pin reaches its own output only
+out-only : (N : Netlist) (y : ℕ) {z p e : ℕ} → p ≡ outPin N y → Reach N z p e → z ≡ y
+out-only N y q (here h) = omega arith
+out-only N y {p = p} q (on {j = j} o n r) = absurd (no-out N j p y o q)
+
+module _ (from to i c o n b wides : ℕ) (kinds counts nets reached sites widths left : List ℕ) (pins : n ≡ allPins (tabled i c o kinds counts nets)) (M : SiteMasks (tabled i c o kinds counts nets) sites)
+    (W : Widths o b reached widths) (D : WideWord o widths wides) (S : Started from to wides sites left) where
+  -- a fault is looked for at outputs of its site, none of which is wide
+  at-site : (f z : ℕ) → digit z (getD left f 0) ≡ true → (digit z (getD sites (f / 2) 0) ≡ true) × (bitAnd (getD sites (f / 2) 0) wides ≡ 0)
+  at-site f z d = elim (decLt f from) [
+    | yes l ↦ dark (S .before f l)
+    | no g ↦ elim (decLt f to) [
+      | yes l ↦ elim (ℕ-discrete (bitAnd (getD sites (f / 2) 0) wides) 0) [
+        | yes e ↦ (ap (digit z) (sym (S .narrow f (omega arith) l e)) ∙ d, e)
+        | no h ↦ dark (S .refused f (omega arith) l h)
+      ]
+      | no h ↦ dark (S .after f (omega arith))
+    ]
+  ]
+    where
+      dark : getD left f 0 ≡ 0 → (digit z (getD sites (f / 2) 0) ≡ true) × (bitAnd (getD sites (f / 2) 0) wides ≡ 0)
+      dark e = absurd (false≢true (sym (digit-zero z) ∙ ap (digit z) (sym e) ∙ d))
+
+  there : (f z : ℕ) → f < 2 * (i + c + n) → digit z (getD left f 0) ≡ true → z < o
+  there f z h d = elim (decLt z o) [
+    | yes l ↦ l
+    | no g ↦ absurd (false≢true (sym (M .at (f / 2) (omega (arith, pins)) .high z (omega arith)) ∙ at-site f z d .0))
+  ]
+
+  narrow : (f z : ℕ) → f < 2 * (i + c + n) → digit z (getD left f 0) ≡ true → widthOf b reached z ≤ 16
+  narrow f z h d =
+      let (e, q) = at-site f z d in
+      not-wide o b (getD sites (f / 2) 0) wides reached widths W D z (there f z h d) e (ap (digit z) q ∙ digit-zero z)
+
+  own-only : (f y : ℕ) → 2 * (i + c + n - o) ≤ f → f < 2 * (i + c + n) → digit y (getD left f 0) ≡ true → y ≡ f / 2 - (i + c + n - o)
+  own-only f y l h d =
+      let s : f / 2 < i + c + allPins (tabled i c o kinds counts nets) = omega (arith, pins) in
+      let r : SiteReaches (tabled i c o kinds counts nets) (cond false (Net (f / 2)) (Pin (f / 2 - (i + c)))) y =
+      subst (λ t. SiteReaches (tabled i c o kinds counts nets) (cond t (Net (f / 2)) (Pin (f / 2 - (i + c)))) y) (le-ltb (f / 2) (i + c) (omega (arith, pins))) (M .at (f / 2) s .set y (there f y h d) (at-site f y d .0)) in
+      out-only (tabled i c o kinds counts nets) (f / 2 - (i + c + n - o)) (omega (arith, pins)) (r .1)
+
+  pub sought : (best : List ℕ) → InLimits (tabled i c o kinds counts nets) → ((f : ℕ) → f < 10368 → getD best f 0 ≡ 64) → Sought i c o n b reached left best
+  sought best L B =
+      record {
+        outputs = λ f z h d. (there f z h d, narrow f z h d);
+        none-yet = λ f h. B f (omega (arith, pins, L .few-inputs, L .few-cells, L .few-pins));
+        only = own-only;
+      }
+
+  pub judged : (left′ best pat : List ℕ) → to ≤ 2 * (i + c + n) → AllSofar i c o n b 0 kinds counts nets reached left left′ best pat → (f : ℕ) → from ≤ f → f < to
+      → Judged i c o n b f wides kinds counts nets reached sites widths best pat
+  judged left′ best pat t A f u v =
+      record {
+        a-fault = omega arith;
+        sites-are = M;
+        widths-are = W;
+        wides-are = D;
+        long-best = A .long .long-best;
+        long-pat = A .long .long-pat;
+        found = λ low l e. (
+          getD left′ f 0,
+          subst (λ whole. Sofar (Shows i c o kinds counts nets low (relOf reached) f) (sizeOf b reached) 0 whole (getD left′ f 0) (getD best f 0) (getD pat f 0)) (S .narrow f u v e) (A .fault low l f (omega arith)),
+        );
+      }
