@@ -6,7 +6,7 @@ from pathlib import Path
 
 from sources import tree
 
-START = re.compile(r"^(pub )?fn (\w+)\(", re.M)
+START = re.compile(r"^(pub )?fn (\w+)(?:<'\w+>)?\(", re.M)
 CLAUSE = re.compile(r"^    (requires|ensures) \{ (.*?) \}$", re.M | re.S)
 
 

@@ -1,19 +1,23 @@
-"""The replies that a public contract allows: its refusals in order, and the theorem that two of them are equal."""
+"""The replies that a public contract allows: its refusals in order, and the theorem that two of them are equal.
+
+A reply on a file is `Start refuse (λ N. CALL) file`, CALL a reply on a netlist: its guards, each a `Step`, in their order, and the
+answer behind the last.
+"""
 
 import re
 from dataclasses import dataclass
 
 from sources import tree
 
-REFUSAL = re.compile(r"^    (\w+)\(u8, usize\),$", re.M)
+# Where the replies are proved to be one.
+THEOREMS = ("replies", "Unique")
 
 
 @dataclass(frozen=True)
 class Refusal:
-    condition: str  # the name of the case in the reply's definition
-    number: str
-    place: str
-    leaves: str  # what stands behind the answer: the buffer, where there is one
+    condition: str  # of which places it holds
+    number: int
+    leaves: str  # `leaving entry` where the call has a lent buffer, which a refusal leaves as it was
 
 
 @dataclass(frozen=True)
@@ -21,13 +25,6 @@ class Theorem:
     name: str
     file: str
     statement: str
-
-
-def cases(definition):
-    """The cases of a data type: name and type, each on one line."""
-    text = "\n".join(definition.text.splitlines()[1:])
-    parts = re.split(r"^  (?=\S)", text, flags=re.M)[1:]
-    return [tuple(re.sub(r"\s+", " ", part).strip().split(" : ", 1)) for part in parts]
 
 
 def closing(text, at):
@@ -40,68 +37,67 @@ def closing(text, at):
     raise ValueError(text)
 
 
-def refusal_name(book, definition):
-    """The variant of the reply's enum that is a refusal: it holds number and place."""
-    kind = re.search(r": (\w+) → ", definition.text.splitlines()[0]).group(1)
-    text = book.declared[definition.crate, kind].read_text()
-    variants = re.search(rf"^pub enum {kind} \{{\n(.*?)^\}}", text, re.M | re.S).group(1)
-    return REFUSAL.search(variants).group(1)
+def body(definition):
+    """What a definition by one equation says, on one line."""
+    return re.sub(r"\s+", " ", definition.text).split(" = ", 1)[1]
 
 
-def passed_on(book, definition, text):
-    """The definition beside a reply's whose answer a case of the reply passes on."""
-    beside = book.modules[definition.crate, definition.module].definitions
-    return next((other for other in beside if other.is_data and other != definition and f"→ {other.name} " in text), None)
+def start(definition):
+    """The refusal of a reply on a file, and the name of the reply on a netlist that it starts; nothing if it is no `Start`."""
+    found = re.match(r"Start \(?((?:leaving entry )?)(\w+)\.Refused\)? \(?(?:λ N\. )?(\w+)", body(definition))
+    return found and (found.group(1).strip(), found.group(2), found.group(3))
+
+
+def guards(text):
+    """The guards of a text `Step CONDITION (REFUSAL) (REST)` in their order, and what stands behind them."""
+    found = []
+    while True:
+        text = text.strip()
+        if text.startswith("(") and closing(text, 0) == len(text) - 1:
+            text = text[1:-1].strip()
+        if not text.startswith("Step "):
+            return found, text
+        at = len("Step ")
+        end = closing(text, at) + 1
+        condition = text[at + 1:end - 1]
+        at = text.index("(", end)
+        end = closing(text, at) + 1
+        refusal = re.fullmatch(r"((?:leaving entry )?)\w+\.Refused (\d+)", text[at + 1:end - 1])
+        found.append(Refusal(condition, int(refusal.group(2)), refusal.group(1).strip()))
+        text = text[end:]
 
 
 def refusals(book, definition):
-    """The refusals of a reply's definition, in the order of its cases; the number `n` stands for what opening the file refuses."""
-    variant = refusal_name(book, definition)
-    found = []
-    for name, text in cases(definition):
-        inner = passed_on(book, definition, text)
-        if inner:
-            found.extend(refusals(book, inner))
-            continue
-        end = text.rsplit("→", 1)[1]
-        at = end.find(f"({variant} ")
-        if at >= 0:
-            close = closing(end, at)
-            _, number, place = end[at + 1:close].split(" ", 2)
-            place = place[1:-1] if place.startswith("(") else place
-            found.append(Refusal(name, number, place, end[close + 1:].strip()))
-    return found
+    """The refusals of a reply on a file that come after those of opening it, in the order of its guards."""
+    module = book.modules[definition.crate, definition.module]
+    name = start(definition)[2]
+    while True:
+        call = next(d for d in module.definitions if d.name == name)
+        text = body(call)
+        if text.startswith("Knowing N (λ d low k. "):
+            text = text[len("Knowing N (λ d low k. "):-1]
+        found, rest = guards(text)
+        inner = re.match(r"(\w+On) ", rest)
+        if found or not inner:
+            return found
+        name = inner.group(1)
 
 
 def has_buffer(definition):
     """Whether a reply's definition speaks of what a call leaves in a lent buffer."""
-    return bool(re.search(r": \w+ → List ℕ → Type 0 where$", definition.text.splitlines()[0]))
-
-
-def enclosing(lines, at):
-    """The parameters of the modules that a line stands in."""
-    found, depth = [], len(lines[at]) - len(lines[at].lstrip())
-    for line in reversed(lines[:at]):
-        indent = len(line) - len(line.lstrip())
-        if line.strip() and indent < depth:
-            depth = indent
-            module = re.match(r" *module _ (.*) where$", line)
-            if module:
-                found.insert(0, module.group(1))
-    return found
+    return "× List ℕ → Type 0" in definition.text
 
 
 def uniqueness(definition):
-    """The lemma that says that two replies of a definition are equal, the buffer too where there is one."""
-    end = r"\((\w+) ≡ (\w+)\) × \((\w+) ≡ (\w+)\)$" if has_buffer(definition) else r"→ (\w+) ≡ (\w+)$"
-    for path in tree.files(definition.crate, "proofs", "antt"):
-        lines = path.read_text().splitlines()
-        for at, line in enumerate(lines):
-            found = re.match(r" *pub (one-[\w-]+-reply) : (.*)", line)
-            if not found:
-                continue
-            rest = [other.strip() for other in lines[at + 1:at + 3] if other.lstrip().startswith("→")]
-            statement = " ".join([*enclosing(lines, at), found.group(2), *rest])
-            if statement.count(f"{definition.name} ") == 2 and re.search(end, statement):
-                return Theorem(found.group(1), tree.shown(path), statement)
+    """The theorem that says of two replies of a definition, a and b, that they are equal, the buffer too where there is one."""
+    path = tree.CRATES / THEOREMS[0] / "proofs" / f"{THEOREMS[1]}.antt"
+    lines = path.read_text().splitlines()
+    for at, line in enumerate(lines):
+        found = re.match(r"pub (one-[\w-]+-reply) : (.*)", line)
+        if not found:
+            continue
+        rest = [other.strip() for other in lines[at + 1:at + 3] if other.lstrip().startswith("→")]
+        statement = " ".join([found.group(2), *rest])
+        if re.search(rf"→ {definition.name} ([^→]*)a → {definition.name} \1b → a ≡ b$", statement):
+            return Theorem(found.group(1), tree.shown(path), statement)
     return None

@@ -17,7 +17,13 @@ def listed():
 
 
 def dependencies(crate):
-    return rows()[crate]
+    """All crates that a crate stands on, the kit's too."""
+    listed_rows, reached, ahead = rows(), set(), [crate]
+    while ahead:
+        below = listed_rows.get(ahead.pop(), set()) - reached
+        reached |= below
+        ahead += below
+    return reached
 
 
 def is_program(crate):

@@ -32,7 +32,7 @@ use Rattle.words.proofs.Lanes.{gate-same}
 use Rattle.events.proofs.Running.{outside}
 use Rattle.flip.specs.Bed.{Bed, Start, Rules}
 use Rattle.flip.proofs.Flips.{no-out, Stuck, input-lane}
-use Rattle.bridge.specs.Chunk.{faultNumber}
+use Rattle.faults.specs.Numbers.{faultNumber}
 use Rattle.bridge.proofs.Bridge.{lane}
 use Rattle.cells.specs.Cells.{Good, Clear, Back}
 use Rattle.cells.proofs.Trying.{same-table}

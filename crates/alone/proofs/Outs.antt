@@ -22,7 +22,7 @@ use Rattle.rows.specs.Rows.{Filled}
 use Rattle.rows.proofs.Fill.{row-at}
 use Rattle.rows.proofs.Bits.{meet}
 use Rattle.flip.proofs.Flips.{out-lane}
-use Rattle.bridge.specs.Chunk.{faultNumber}
+use Rattle.faults.specs.Numbers.{faultNumber}
 use Rattle.bridge.proofs.Bridge.{lane}
 use Rattle.homes.specs.Homes.{Looked}
 use Rattle.known.specs.Setting.{Shows, Setting, Ready, Long}

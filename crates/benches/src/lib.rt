@@ -11,11 +11,21 @@ ghost use Rattle.slots.specs.Slots.{relOf, Laid};
 ghost use Rattle.readers.specs.Readers.{Heads};
 ghost use Rattle.stages.specs.Stage.{Watch};
 ghost use Rattle.benches.specs.Benches.{Blocked, BlockInputs, Fitted, Opened, BlockList, OutSlots, Benched};
+use chip::BLOCKS;
+use chip::Block;
+use chip::Branches;
+use chip::Counts;
+use chip::Firsts;
+use chip::Kinds;
+use chip::Nets;
+use chip::Order;
+use chip::PinWords;
+use chip::Reached;
 use chip::wide;
 use chip::wide8;
 
 // The input of each block, by the n pins.
-fn block_inputs(i: usize, n: usize, branches: &[u16; 4096], block: &[u16; 4096], input: &mut [u8])
+fn block_inputs(i: usize, n: usize, branches: &Branches, block: &Block, input: &mut [u8])
     requires { ⌜ Blocked i n (now branches) (now block) × (length (now input) ≡ 4160) ⌝ }
     ensures { λ _. ⌜ BlockInputs i n (now (branches .entry)) (now (block .entry)) (now (input .exit)) ⌝ }
 {
@@ -27,7 +37,7 @@ fn block_inputs(i: usize, n: usize, branches: &[u16; 4096], block: &[u16; 4096],
 }
 
 // The blocks of the b that reach output z, in order.
-fn block_list(z: usize, b: usize, reached: &[u64; 4160], list: &mut [u16])
+fn block_list(z: usize, b: usize, reached: &Reached, list: &mut [u16])
     requires { ⌜ (z < 64) × (b ≤ 4160) × (tally (relOf (now reached) z) b ≤ 16) × (length (now list) ≡ 16) ⌝ }
     ensures { λ _. ⌜ BlockList b (relOf (now (reached .entry)) z) (now (list .exit)) ⌝ }
 {
@@ -47,8 +57,8 @@ fn open_of(
     i: usize,
     c: usize,
     j: usize,
-    counts: &[u8; 1024],
-    firsts: &[u16; 1025],
+    counts: &Counts,
+    firsts: &Firsts,
     sources: &[u16],
     left: &[u64],
 ) -> u64
@@ -67,11 +77,11 @@ pub fn start_groups(
     i: usize,
     c: usize,
     o: usize,
-    kinds: &[u8; 1024],
-    counts: &[u8; 1024],
-    firsts: &[u16; 1025],
-    nets: &[u16; 4096],
-    order: &[u16; 1024],
+    kinds: &Kinds,
+    counts: &Counts,
+    firsts: &Firsts,
+    nets: &Nets,
+    order: &Order,
     sources: &[u16],
     left: &[u64],
     groups: &mut [u64],
@@ -89,7 +99,7 @@ pub fn start_groups(
 }
 
 // The slots of the o outputs, whose pins are the last of n.
-fn out_slots(o: usize, n: usize, src: &[u16; 4096], outs: &mut [u16])
+fn out_slots(o: usize, n: usize, src: &Nets, outs: &mut [u16])
     requires { ⌜ (o ≤ 64) × (o ≤ n) × (n ≤ 4096) × OutSlots 0 o n (now src) (now outs) ⌝ }
     ensures { λ _. ⌜ OutSlots o o n (now (src .entry)) (now (outs .exit)) ⌝ }
 {
@@ -105,11 +115,11 @@ pub fn bench(
     o: usize,
     n: usize,
     b: usize,
-    nets: &[u16; 4096],
-    branches: &[u16; 4096],
-    block: &[u16; 4096],
-    reached: &[u64; 4160],
-    src: &mut [u16; 4096],
+    nets: &Nets,
+    branches: &Branches,
+    block: &Block,
+    reached: &Reached,
+    src: &mut Nets,
     outs: &mut [u16],
     list: &mut [u16],
 ) -> usize
@@ -118,7 +128,7 @@ pub fn bench(
     requires { ⌜ (length (now outs) ≡ 64) × ((y : ℕ) → getD (now outs) y 0 ≡ 0) × (length (now list) ≡ 16) ⌝ }
     ensures { λ r. ⌜ Benched z i o n b r (now (nets .entry)) (now (branches .entry)) (now (block .entry)) (now (reached .entry)) (now (src .exit)) (now (outs .exit)) (now (list .exit)) ⌝ }
 {
-    let mut slots = [0u16; 4160];
+    let mut slots = [0u16; BLOCKS];
     let w = slots::variables(z, b, reached, &mut slots);
     slots::pin_slots(i, n, &slots, branches, nets, block, src);
     out_slots(o, n, src, outs);
@@ -133,13 +143,13 @@ pub fn chip_tables(
     o: usize,
     n: usize,
     kinds: &[u8],
-    counts: &[u8; 1024],
-    firsts: &[u16; 1025],
-    nets: &[u16; 4096],
-    order: &[u16; 1024],
-    branches: &[u16; 4096],
-    block: &[u16; 4096],
-    cone: &[u64; 4096],
+    counts: &Counts,
+    firsts: &Firsts,
+    nets: &Nets,
+    order: &Order,
+    branches: &Branches,
+    block: &Block,
+    cone: &PinWords,
     reach: &mut [u64],
     heads: &mut [u16],
     readers: &mut [u16],

@@ -27,7 +27,9 @@ use Rattle.flip.specs.Bed.{Bed, made, Start, Rules}
 use Rattle.flip.proofs.Flips.{net-lane, pin-lane}
 use Rattle.events.specs.Events.{Live, Obeys}
 use Rattle.homes.specs.Homes.{slotBut, pinWord, homeWord, numberOf, homeLane, Within}
-use Rattle.bridge.specs.Chunk.{Chunk, Flipped, faultAt, faultNumber}
+use Rattle.bridge.specs.Chunk.{Chunk, Flipped, faultAt}
+use Rattle.faults.specs.Numbers.{faultNumber}
+use Rattle.faults.proofs.Numbers.{fault-net, fault-pin}
 
 xor-comm : (a b : Bool) → xor a b ≡ xor b a
 unfolding xor
@@ -42,14 +44,6 @@ ones-from f g a zero h = refl
 ones-from f g a (suc n) h = let e : ones f 0 n ≡ ones g a n = ones-from f g a n (λ i l. h i (omega arith)) in let d : f (0 + n) ≡ g (a + n) = h n (omega arith) in cc
 
 -- ---- fault e of a home by its number
-
-pub fault-net : (nets f x v : ℕ) → f / 2 ≡ x → f % 2 ≡ v → x < nets → _≡_ {A = Fault} (faultNumber nets f) (record { site = Net x; stuck = v })
-fault-net nets f x v e m l = rw (e, m, lt-ltb x nets l) refl
-
-pub fault-pin : (nets f x v : ℕ) → f / 2 ≡ nets + x → f % 2 ≡ v → _≡_ {A = Fault} (faultNumber nets f) (record { site = Pin x; stuck = v })
-fault-pin nets f x v e m =
-    let d : nets + x - nets ≡ x = omega arith in
-    rw (e, m, le-ltb (nets + x) nets (omega arith), d) refl
 
 pub fault-number : (e i c j a : ℕ) → j < c → _≡_ {A = Fault} (faultAt e i j a) (faultNumber (i + c) (numberOf e (i + j) (i + c + a)))
 fault-number e i c j a l = elim (decLt e 2) [

@@ -27,7 +27,3 @@ pub record Flipped (c u p : ℕ) (kinds counts firsts src order reach goods vals
 -- fault e of the cell j with its pins from pin a on, in a chip with as many inputs as i
 abbrev pub faultAt : ℕ → ℕ → ℕ → ℕ → Fault
 faultAt e i j a = record { site = cond (ltb e 2) (Net (i + j)) (Pin (a + (e / 2 - 1))); stuck = e % 2 }
-
--- fault f of a chip with so many nets: those of the nets, and then those of the pins
-abbrev pub faultNumber : ℕ → ℕ → Fault
-faultNumber nets f = record { site = cond (ltb (f / 2) nets) (Net (f / 2)) (Pin (f / 2 - nets)); stuck = f % 2 }

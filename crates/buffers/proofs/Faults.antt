@@ -16,7 +16,8 @@ use Rattle.chip.specs.Search.{digit, width}
 use Rattle.chip.proofs.Basics.{sum-up}
 use Rattle.words.proofs.Bits.{digit-zero, digit-ones}
 use Rattle.flip.proofs.Flips.{run-lane}
-use Rattle.bridge.specs.Chunk.{Chunk, faultNumber}
+use Rattle.bridge.specs.Chunk.{Chunk}
+use Rattle.faults.specs.Numbers.{faultNumber}
 use Rattle.bridge.proofs.Bridge.{lane}
 use Rattle.known.specs.Setting.{Shows, Setting, Long}
 use Rattle.alone.specs.Alone.{runLane, Went}

@@ -21,7 +21,8 @@ use Rattle.rows.proofs.Fill.{row-at}
 use Rattle.slots.specs.Slots.{faultSlot, FaultSlots}
 use Rattle.events.specs.Events.{Chip, Worked}
 use Rattle.homes.specs.Homes.{Looked}
-use Rattle.bridge.specs.Chunk.{Chunk, faultNumber}
+use Rattle.bridge.specs.Chunk.{Chunk}
+use Rattle.faults.specs.Numbers.{faultNumber}
 use Rattle.alone.specs.Alone.{runLane}
 use Rattle.buffers.specs.Buffers.{Tables, Faulty, FaultRan}
 

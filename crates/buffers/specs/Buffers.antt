@@ -13,7 +13,7 @@ use Rattle.faults.specs.Decided.{Decided}
 use Rattle.slots.specs.Slots.{FaultSlots}
 use Rattle.events.specs.Events.{Chip, Worked}
 use Rattle.homes.specs.Homes.{Looked}
-use Rattle.bridge.specs.Chunk.{faultNumber}
+use Rattle.faults.specs.Numbers.{faultNumber}
 use Rattle.known.specs.Setting.{Shows, Setting, Advance, Ready}
 use Rattle.alone.specs.Alone.{runLane}
 

@@ -8,31 +8,18 @@ ghost use Rattle.chip.specs.Netlist.{allPins, InLimits};
 ghost use Rattle.chip.specs.Inner.Tables.{tabled, FirstPins, BranchTable};
 ghost use Rattle.order.specs.Order.{Ordered};
 ghost use Rattle.events.specs.Events.{Chip};
-ghost use Rattle.bridge.specs.Chunk.{faultNumber};
+ghost use Rattle.faults.specs.Numbers.{faultNumber};
 ghost use Rattle.known.specs.Setting.{Long};
 ghost use Rattle.alone.specs.Alone.{Went};
 ghost use Rattle.buffers.specs.Buffers.{Tables, Faulty, FaultRan, FaultStep, BufferFault, PadFault};
-use chip::Fault;
-use chip::Site;
+use chip::Branches;
+use chip::Counts;
+use chip::Firsts;
+use chip::Kinds;
+use chip::Nets;
+use chip::Order;
+use chip::PINS;
 use chip::wide;
-
-// Fault f of a chip with so many nets: those of the nets come first, and stuck at 0 before 1.
-pub fn fault_at(nets: usize, f: usize) -> Fault
-    ensures { λ r. ⌜ r ≡ faultNumber nets f ⌝ }
-{
-    let stuck = (f % 2) as u8;
-    let at = f / 2;
-    if at < nets {
-        return Fault {
-            site: Site::Net(at),
-            stuck: stuck,
-        };
-    }
-    Fault {
-        site: Site::Pin(at - nets),
-        stuck: stuck,
-    }
-}
 
 // The slots of the n pins under fault f.
 fn faulty_slots(
@@ -41,13 +28,13 @@ fn faulty_slots(
     o: usize,
     n: usize,
     f: usize,
-    kinds: &[u8; 1024],
-    counts: &[u8; 1024],
-    firsts: &[u16; 1025],
-    nets: &[u16; 4096],
-    order: &[u16; 1024],
-    branches: &[u16; 4096],
-    src: &[u16; 4096],
+    kinds: &Kinds,
+    counts: &Counts,
+    firsts: &Firsts,
+    nets: &Nets,
+    order: &Order,
+    branches: &Branches,
+    src: &Nets,
     faulty: &mut [u16],
 )
     requires { ⌜ InLimits (tabled i c o (now kinds) (now counts) (now nets)) ⌝ }
@@ -58,7 +45,7 @@ fn faulty_slots(
     requires { ⌜ length (now faulty) ≡ 4096 ⌝ }
     ensures { λ _. ⌜ Faulty i c o n f (now (kinds .entry)) (now (counts .entry)) (now (nets .entry)) (now (src .entry)) (now (faulty .exit)) ⌝ }
 {
-    let mut decided = [2u8; 4096];
+    let mut decided = [2u8; PINS];
     faults::decided(
         i,
         c,
@@ -70,7 +57,7 @@ fn faulty_slots(
         nets,
         order,
         branches,
-        fault_at(i + c, f),
+        faults::fault_at(i + c, f),
         &mut decided,
     );
     slots::fault_slots(n, &decided, src, faulty);
@@ -84,10 +71,10 @@ fn run_fault(
     f: usize,
     q: usize,
     u: u64,
-    kinds: &[u8; 1024],
-    counts: &[u8; 1024],
-    firsts: &[u16; 1025],
-    order: &[u16; 1024],
+    kinds: &Kinds,
+    counts: &Counts,
+    firsts: &Firsts,
+    order: &Order,
     reach: &[u64],
     faulty: &[u16],
     outs: &[u16],
@@ -120,14 +107,14 @@ fn try_fault(
     f: usize,
     q: usize,
     g: u64,
-    kinds: &[u8; 1024],
-    counts: &[u8; 1024],
-    firsts: &[u16; 1025],
-    nets: &[u16; 4096],
-    order: &[u16; 1024],
-    branches: &[u16; 4096],
+    kinds: &Kinds,
+    counts: &Counts,
+    firsts: &Firsts,
+    nets: &Nets,
+    order: &Order,
+    branches: &Branches,
     reach: &[u64],
-    src: &[u16; 4096],
+    src: &Nets,
     outs: &[u16],
     goods: &[u64],
     vals: &mut [u64],
@@ -143,7 +130,7 @@ fn try_fault(
 {
     let u = left[f] & g;
     if u != 0 {
-        let mut faulty = [0u16; 4096];
+        let mut faulty = [0u16; PINS];
         faulty_slots(
             i,
             c,
@@ -191,14 +178,14 @@ fn try_site(
     s: usize,
     q: usize,
     g: u64,
-    kinds: &[u8; 1024],
-    counts: &[u8; 1024],
-    firsts: &[u16; 1025],
-    nets: &[u16; 4096],
-    order: &[u16; 1024],
-    branches: &[u16; 4096],
+    kinds: &Kinds,
+    counts: &Counts,
+    firsts: &Firsts,
+    nets: &Nets,
+    order: &Order,
+    branches: &Branches,
     reach: &[u64],
-    src: &[u16; 4096],
+    src: &Nets,
     outs: &[u16],
     goods: &[u64],
     vals: &mut [u64],
@@ -269,14 +256,14 @@ fn try_pad(
     j: usize,
     q: usize,
     g: u64,
-    kinds: &[u8; 1024],
-    counts: &[u8; 1024],
-    firsts: &[u16; 1025],
-    nets: &[u16; 4096],
-    order: &[u16; 1024],
-    branches: &[u16; 4096],
+    kinds: &Kinds,
+    counts: &Counts,
+    firsts: &Firsts,
+    nets: &Nets,
+    order: &Order,
+    branches: &Branches,
     reach: &[u64],
-    src: &[u16; 4096],
+    src: &Nets,
     outs: &[u16],
     goods: &[u64],
     vals: &mut [u64],
@@ -346,15 +333,15 @@ pub fn try_pads(
     n: usize,
     q: usize,
     g: u64,
-    kinds: &[u8; 1024],
-    counts: &[u8; 1024],
-    firsts: &[u16; 1025],
-    nets: &[u16; 4096],
-    order: &[u16; 1024],
-    branches: &[u16; 4096],
+    kinds: &Kinds,
+    counts: &Counts,
+    firsts: &Firsts,
+    nets: &Nets,
+    order: &Order,
+    branches: &Branches,
     sources: &[u16],
     reach: &[u64],
-    src: &[u16; 4096],
+    src: &Nets,
     outs: &[u16],
     goods: &[u64],
     vals: &mut [u64],

@@ -37,14 +37,9 @@ fn call(
     true
 }
 
-// One call: its code, its fields and its line. Answers whether another may follow.
-fn answer(
-    file: &mut [u8],
-    text: &mut [u8],
-    lent: &mut [u8],
-    line: &mut [u8; 65536],
-    used: &mut usize,
-) -> bool {
+// One call: its code, its fields and its line, which is written before the next call is read. Answers whether another may
+// follow.
+fn answer(file: &mut [u8], text: &mut [u8], lent: &mut [u8], line: &mut [u8; 65536]) -> bool {
     let mut code = [0u8; 1];
     if io::read_full(0, &mut code) == 0 {
         return false;
@@ -52,7 +47,10 @@ fn answer(
     let k = code[0];
     let mut good = k < 7;
     let n = asked::string(&mut good, file);
-    call(k, good, &file[..n], text, lent, line, used)
+    let mut used = 0;
+    let more = call(k, good, &file[..n], text, lent, line, &mut used);
+    lines::finish(line, &mut used);
+    more
 }
 
 // A proved loop has to end, and nothing says that the input does: the calls are counted down from a number that no
@@ -63,12 +61,10 @@ fn run(
     lent: &mut [u8; 65536],
     line: &mut [u8; 65536],
 ) {
-    let mut used = 0;
     let mut turns = u64::MAX;
-    while turns > 0 && answer(file, text, lent, line, &mut used) {
+    while turns > 0 && answer(file, text, lent, line) {
         turns -= 1;
     }
-    lines::finish(line, &mut used);
 }
 
 fn main() {

@@ -1,14 +1,15 @@
 // The line of each call: its answer, and the whole of the buffer that was lent to it.
 ghost use Rattle.netlist.specs.Inner.Holds.{Holds};
-use checking::Checked;
+use chip::Checked;
+use chip::Classed;
 use chip::Fault;
-use clocks::Setting;
+use chip::ReadBack;
+use chip::Searched;
+use chip::Setting;
+use chip::Transformed;
 use netlist::Reading;
 use netlist::Sizes;
 use netlist::Tables;
-use search::Searched;
-use structure::Classed;
-use transform::Transformed;
 
 fn sizes(z: Sizes, line: &mut [u8; 65536], used: &mut usize) {
     lines::field(line, used, b"taken in ", z.inputs);
@@ -32,7 +33,7 @@ fn tables(file: &[u8], t: Tables, z: Sizes, line: &mut [u8; 65536], used: &mut u
 }
 
 fn read(file: &[u8], line: &mut [u8; 65536], used: &mut usize) {
-    let t = netlist::read(file);
+    let t = bumblereed::read(file);
     let reading = t.reading;
     match reading {
         Reading::Refused(k, p) => {
@@ -83,7 +84,7 @@ fn set(
         Setting::Set(n) => {
             lines::field(line, used, b"set ", n);
         }
-        Setting::Unset(k, p) => {
+        Setting::Refused(k, p) => {
             lines::refused(line, used, k, p);
         }
     }
@@ -101,10 +102,10 @@ fn read_back(
     used: &mut usize,
 ) {
     match bumblereed::read_back(file, z, play, clock, lent) {
-        clocks::Reading::Read(n) => {
+        ReadBack::Read(n) => {
             lines::field(line, used, b"read ", n);
         }
-        clocks::Reading::Unread(k, p) => {
+        ReadBack::Refused(k, p) => {
             lines::refused(line, used, k, p);
         }
     }
@@ -117,7 +118,7 @@ fn checked(file: &[u8], fault: Fault, play: &[u8], line: &mut [u8; 65536], used:
             lines::field(line, used, b"shown clock ", t);
             lines::field(line, used, b" output ", z);
         }
-        Checked::NotShown => {
+        Checked::NotSeen => {
             lines::text(line, used, b"not seen");
         }
         Checked::Refused(k, p) => {

@@ -17,7 +17,7 @@ use Rattle.chip.proofs.Basics.{flat-comb, ones-same, Ranked, Counted, n
 use Rattle.chip.proofs.Runs.{has-run}
 use Rattle.chip.proofs.Pads.{Pad, itself, buffer, height, height-top, buf-low, buf-is, fed-buf, pad-source, source-pad, pad-cases, outside, out-outside, branch-is, branch-in}
 use Rattle.chip.proofs.Copies.{stands, Way, way-branch, way-on, for-input, for-cell, not-copied, old-of-cell, pin-old, pin-out, home-branch, first-old, out-moved}
-use Rattle.chip.proofs.Transformed.{stand-shows, transformed-sound, transformed-ranked}
+use Rattle.chip.proofs.Transforming.{stand-shows, transformed-sound, transformed-ranked}
 
 -- the steps of `through`
 pub through-input : (N : Netlist) (f : Lines) (k x : ℕ) (b : Bool) → x < N .inputs → through N f k x b ≡ f .net x b

@@ -3,7 +3,7 @@ pub mod Basics
 pub mod Entries
 pub mod LookBack
 pub mod Runs
-pub mod Transformed
+pub mod Transforming
 pub mod Decide
 pub mod Loops
 pub mod Pads

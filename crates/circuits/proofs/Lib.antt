@@ -1,4 +1,3 @@
 pub mod Small
 pub mod Rows
-pub mod Straight
 pub mod Useless

@@ -3,236 +3,211 @@ use Prim.Native.Nat.{ℕ, _≤_, _<_}
 use mathlib.Core.Path.{_≡_, refl, sym, ap, _∙_}
 use mathlib.Core.Logic.{_⊎_, inl, inr, _≢_}
 use mathlib.Core.Bool.{true}
-use mathlib.Core.List.{List, [], _∷_, _++_}
+use mathlib.Core.List.{List, [], _∷_}
 use lib.ListN.{getD, replicate}
 use native.Mathlib.Omega.{arith}
 use Rattle.chip.specs.Netlist.{sumBelow}
 use Rattle.chip.specs.Class.{blocks}
-use Rattle.chip.specs.Faults.{stuck}
 use Rattle.chip.specs.Search.{patterns}
 use Rattle.chip.specs.Search as Search
-use Rattle.chip.proofs.Loops.{fed-cell}
-use Rattle.chip.proofs.Search.{hit-bounded}
+use Rattle.chip.specs.Refusals.{goes-on, unopened, opened, prepared}
+use Rattle.chip.specs.Replies.{SearchReply, finds, finds-none}
 use Rattle.chip.specs.declared.Site.the-variants.{Net}
-use Rattle.fields.specs.Format.{Parsed}
-use Rattle.netlist.specs.Chip.{chipOf}
-use Rattle.structure.specs.declared.Classed.{Classed}
-use Rattle.structure.specs.declared.Classed.the-variants as Classed
-use Rattle.structure.specs.Reply.{refuses}
-use Rattle.structure.proofs.Unique.{one-class-reply}
-use Rattle.transform.specs.Reply.{TransformReply}
-use Rattle.transform.specs.declared.Transformed.{Transformed}
-use Rattle.transform.specs.declared.Transformed.the-variants as Transformed
-use Rattle.transform.proofs.Unique.{one-transform-reply}
-use Rattle.clocks.specs.Reply.{SetReply, ReadReply}
-use Rattle.clocks.specs.declared.Setting.{Setting}
-use Rattle.clocks.specs.declared.Setting.the-variants as Setting
-use Rattle.clocks.specs.declared.Reading.{Reading}
-use Rattle.clocks.specs.declared.Reading.the-variants as Reading
-use Rattle.clocks.proofs.Unique.{one-set-reply, one-read-reply}
-use Rattle.checking.specs.declared.Checked.{Checked}
-use Rattle.checking.specs.declared.Checked.the-variants as Checked
-use Rattle.checking.proofs.Unique.{one-check-reply}
-use Rattle.search.specs.Reply.{SearchReply, finds, finds-none}
-use Rattle.search.specs.declared.Searched.{Searched}
-use Rattle.search.specs.declared.Searched.the-variants as Searched
-use Rattle.search.proofs.Unique.{one-search-reply}
-use Rattle.circuits.specs.Circuits.{listing, listingTransformed, straight, neverOne, hanging}
-use Rattle.circuits.specs.Useless.{NoneRefuses, NoneConstant, NoneIdle, NoneWithout, Hangs, bytes, ToClass, Classing, ToTransform, Transforming, ToSet, SettingOf, ToRead, ReadingBack, ToTest, Checking, Searching, ShutOut}
-use Rattle.circuits.proofs.Rows.{small-circuits, hung, hung-read, hung-loop, hung-hangs, through-transformed, through-set, through-back, through-set-two, through-back-two, through-late, listed-back}
-use Rattle.circuits.proofs.Straight.{stuckInput, late, never, above}
+use Rattle.chip.specs.declared.Fault.{Fault}
+use Rattle.chip.specs.declared.Classed.the-variants as Classed
+use Rattle.chip.specs.declared.Transformed.the-variants as Transformed
+use Rattle.chip.specs.declared.Setting.the-variants as Setting
+use Rattle.chip.specs.declared.ReadBack.the-variants as ReadBack
+use Rattle.chip.specs.declared.Checked.the-variants as Checked
+use Rattle.chip.specs.declared.Searched.the-variants as Searched
+use Rattle.chip.proofs.Search.{bounded}
+use Rattle.replies.proofs.Unique.{one-class-reply, one-transform-reply, one-set-reply, one-read-reply, one-check-reply, one-search-reply}
+use Rattle.circuits.specs.Circuits.{listing, straight, neverOne, hanging}
+use Rattle.circuits.specs.Useless.{Call, IsRefusal, NoneRefuses, NoneConstant, NoneIdle, NoneWithout, areBytes, Bytes, classing, transforming, ToSet, setting, ToRead, reading, ToTest, checking, searching, OfFile, ShutOut}
+use Rattle.circuits.proofs.Small.{working, transform-reply, set-reply, read-reply, check-reply}
+use Rattle.circuits.proofs.Rows.{hung, small-circuits}
 
--- A contract that allows one reply shuts a version out as soon as it allows another reply than the version's.
-module _ (Given Answer : Type 0) (Allows : Given → Answer → List ℕ → Type 0) (refusal : ℕ → ℕ → Answer)
-    (one : (g : Given) (a b : Answer) (l m : List ℕ) → Allows g a l → Allows g b m → a ≡ b) where
-  refuses-out : (g : Given) (a : Answer) (l : List ℕ) → Allows g a l → ((n p : ℕ) → refusal n p ≢ a) → NoneRefuses Given Answer Allows refusal
-  refuses-out g a l h other n p leaves all = other (n g) (p g) (one g (refusal (n g) (p g)) a (leaves g) l (all g) h)
+-- a reply that a call's contract allows, to what the call is given
+abbrev Reply : Call → Type 0
+Reply C = (g : C .Given) × ((a : C .Answer × List ℕ) × C .Allows g a)
 
-  -- a version that refuses rightly, or else answers r, answers r where something else than a refusal is allowed
-  answers : (r : Answer) (g : Given) (a : Answer) (l m : List ℕ) → Allows g a l → ((n p : ℕ) → refusal n p ≢ a) → ((n : ℕ) × (p : ℕ) × Allows g (refusal n p) m) ⊎ Allows g r m → r ≡ a
-  answers r g a l m h other (inl (n, p, k)) = absurd (other n p (one g (refusal n p) a m l k h))
-  answers r g a l m h other (inr k) = one g r a m l k h
+-- a contract that allows one answer, and two replies whose answers differ and are no refusals: a mark tells them apart
+record Told (C : Call) : Type 0 where
+  one : (g : C .Given) (a b : C .Answer × List ℕ) → C .Allows g a → C .Allows g b → a .0 ≡ b .0
+  mark : C .Answer → ℕ
+  refusals : (n p : ℕ) → mark (C .refusal n p) ≡ 0
+  left : Reply C
+  right : Reply C
+  differ : (0 < mark (left .1 .0 .0)) × (0 < mark (right .1 .0 .0)) × (mark (left .1 .0 .0) ≢ mark (right .1 .0 .0))
 
-  constant-out : (g g′ : Given) (a a′ : Answer) (l l′ : List ℕ) → Allows g a l → Allows g′ a′ l′ → ((n p : ℕ) → refusal n p ≢ a) → ((n p : ℕ) → refusal n p ≢ a′) → a ≢ a′
-      → NoneConstant Given Answer Allows refusal
-  constant-out g g′ a a′ l l′ h h′ other other′ differ r leaves all = differ (sym (answers r g a l (leaves g) h other (all g)) ∙ answers r g′ a′ l′ (leaves g′) h′ other′ (all g′))
+-- So a version is shut out as soon as the contract allows another reply than the version's.
+module _ (C : Call) (T : Told C) where
+  same : (r : Reply C) (version : C .Given → C .Answer × List ℕ) → ((g : C .Given) → C .Allows g (version g)) → version (r .0) .0 ≡ r .1 .0 .0
+  same (g, (a, h)) version all = T .one g (version g) a (all g) h
 
-  without-out : (k : ℕ) (g : Given) (p : ℕ) (l : List ℕ) → Allows g (refusal k p) l → NoneWithout Given Answer Allows refusal k
-  without-out k g p l h answers leaves never all = never g p (one g (answers g) (refusal k p) (leaves g) l (all g) h)
+  -- a version that refuses, or else answers a, answers a where something else than a refusal is allowed
+  marked : (r : Reply C) → 0 < T .mark (r .1 .0 .0) → (version : C .Given → C .Answer × List ℕ) → ((g : C .Given) → C .Allows g (version g))
+      → (a : C .Answer) → IsRefusal C (version (r .0) .0) ⊎ (version (r .0) .0 ≡ a) → T .mark a ≡ T .mark (r .1 .0 .0)
+  marked r l version all a (inl (n, p, f)) = absurd (omega (arith, ap (T .mark) (same r version all), ap (T .mark) f, T .refusals n p))
+  marked r l version all a (inr f) = ap (T .mark) (sym f ∙ same r version all)
 
-module _ (Given Answer : Type 0) (Allows : Given → Answer → List ℕ → Type 0) (one : (g : Given) (a b : Answer) (l m : List ℕ) → Allows g a l → Allows g b m → l ≡ m) where
-  -- the buffer is another than the lent one in its first byte
-  idle-out : (lent : Given → List ℕ) (g : Given) (a : Answer) (l : List ℕ) → Allows g a l → getD (lent g) 0 0 ≢ getD l 0 0 → NoneIdle Given Answer Allows lent
-  idle-out lent g a l h other answers all = other (ap (λ k. getD k 0 0) (one g (answers g) a (lent g) l (all g) h))
+  constant-out : NoneConstant C
+  constant-out version (a, kind) all =
+      T .differ .2 (sym (marked (T .left) (T .differ .0) version all a (kind (T .left .0))) ∙ marked (T .right) (T .differ .1) version all a (kind (T .right .0)))
 
--- Naming the class: P1 and P5.
+  refuses-out : NoneRefuses C
+  refuses-out version kind = constant-out version (T .left .1 .0 .0, λ g. inl (kind g))
 
-class-one : (g : ToClass) (a b : Classed) (l m : List ℕ) → Classing g a l → Classing g b m → a ≡ b
-class-one g a b l m r s = one-class-reply (g .file) r s
+  without-out : (k p : ℕ) (r : Reply C) → r .1 .0 .0 ≡ C .refusal k p → NoneWithout C k
+  without-out k p r e version kind all = kind (r .0) p (same r version all ∙ e)
 
-class-taken : (n p k d b : ℕ) → Classed.Refused n p ≢ Classed.Class k d b
-class-taken n p k d b e = let z : _≡_ {A = ℕ} 0 1 = cc in omega arith
+-- the buffer is another than the lent one in its first byte
+idle-out : (C : Call) → ((g : C .Given) (a b : C .Answer × List ℕ) → C .Allows g a → C .Allows g b → a ≡ b)
+    → (lent : C .Given → List ℕ) (r : Reply C) → getD (lent (r .0)) 0 0 ≢ getD (r .1 .0 .1) 0 0 → NoneIdle C lent
+idle-out C one lent (g, (a, h)) other version kind all = other (ap (λ l. getD l 0 0) (sym (kind g) ∙ ap (λ b. b .1) (one g (version g) a (all g) h)))
 
-class-differs : Classed.Class 2 1 2 ≢ Classed.Class 3 0 1
-class-differs e = let z : _≡_ {A = ℕ} 2 3 = cc in omega arith
+-- The replies that are known: on the circuits of P1 and P5, and for the search on those of P5 and P6.
 
-place-differs : Classed.Refused 9 1 ≢ Classed.Refused 9 2
-place-differs e = let z : _≡_ {A = ℕ} 1 2 = cc in omega arith
+abbrev lent : (l : List ℕ) → areBytes l ≡ true → Bytes
+lent l r = record { list = l; right = r }
 
--- no net below net 1 hangs from the loop of the circuit beside P9
-unhung : (m : ℕ) → m < 1 → ¬ Hangs (chipOf hung) m
-unfolding chipOf
-unhung m l (n, f, g) = omega (arith, fed-cell g .2)
+classes : Told classing
+classes =
+    record {
+      one = λ g a b. one-class-reply (g .list);
+      mark = λ a. elim a [ Classed.Class k d b ↦ k | Classed.Refused n p ↦ 0 ];
+      refusals = λ n p. refl;
+      left = (lent listing refl, ((_, []), small-circuits .p1));
+      right = (lent straight refl, ((_, []), small-circuits .p5));
+      differ = omega arith;
+    }
 
--- Transforming: the circuits of P1 and P5, into zeros.
+transforms : Told transforming
+unfolding working
+transforms =
+    record {
+      one = λ g a b h k. ap (λ c. c .0) (one-transform-reply (g .file .list) (g .out .list) h k);
+      mark = λ a. elim a [ Transformed.Written n ↦ n | Transformed.Refused n p ↦ 0 ];
+      refusals = λ n p. refl;
+      left = (record { file = lent listing refl; out = lent (replicate 21 0) refl }, (_, small-circuits .p3 (replicate 21 0) (omega arith)));
+      right = (record { file = lent straight refl; out = lent (replicate 10 0) refl }, transform-reply straight (tt, tt) (replicate 10 0) (omega arith));
+      differ = omega arith;
+    }
 
-transform-one : (g : ToTransform) (a b : Transformed) (l m : List ℕ) → Transforming g a l → Transforming g b m → (a ≡ b) × (l ≡ m)
-transform-one g a b l m r s = one-transform-reply (g .file) (g .out) r s
+abbrev to-set : (pattern : List ℕ) → areBytes pattern ≡ true → ToSet
+to-set pattern r = record { file = lent straight refl; output = 0; pattern = lent pattern r; play = lent (0 ∷ []) refl }
 
-transform-taken : (n p k : ℕ) → Transformed.Refused n p ≢ Transformed.Written k
-transform-taken n p k e = let z : _≡_ {A = ℕ} 0 1 = cc in omega arith
+sets : Told setting
+unfolding working
+sets =
+    record {
+      one = λ g a b h k. ap (λ c. c .0) (one-set-reply (g .file .list) (g .output) (g .pattern .list) (g .play .list) h k);
+      mark = λ a. elim a [ Setting.Set n ↦ n | Setting.Refused n p ↦ 0 ];
+      refusals = λ n p. refl;
+      left = (record { file = lent listing refl; output = 0; pattern = lent (1 ∷ 0 ∷ []) refl; play = lent (0 ∷ 0 ∷ []) refl }, (_, small-circuits .p2 (0 ∷ 0 ∷ []) (omega arith)));
+      right = (to-set (1 ∷ []) refl, set-reply straight (tt, tt) 0 (1 ∷ []) (0 ∷ []) (omega arith));
+      differ = omega arith;
+    }
 
-transform-differs : Transformed.Written 21 ≢ Transformed.Written 10
-transform-differs e = let z : _≡_ {A = ℕ} 21 10 = cc in omega arith
+abbrev to-read : (play : List ℕ) → areBytes play ≡ true → ℕ → ToRead
+to-read play r clock = record { file = lent straight refl; output = 0; play = lent play r; clock = clock; pattern = lent (0 ∷ []) refl }
 
--- Setting: on the circuits of P1 and P5.
+reads : Told reading
+unfolding working
+reads =
+    record {
+      one = λ g a b h k. ap (λ c. c .0) (one-read-reply (g .file .list) (g .output) (g .play .list) (g .clock) (g .pattern .list) h k);
+      mark = λ a. elim a [ ReadBack.Read n ↦ n | ReadBack.Refused n p ↦ 0 ];
+      refusals = λ n p. refl;
+      left = (
+        record { file = lent listing refl; output = 0; play = lent (1 ∷ 0 ∷ []) refl; clock = 1; pattern = lent (0 ∷ 0 ∷ []) refl },
+        read-reply listing (tt, tt) 0 (1 ∷ 0 ∷ []) 2 1 (0 ∷ 0 ∷ []) (omega arith),
+      );
+      right = (to-read (1 ∷ []) refl 0, read-reply straight (tt, tt) 0 (1 ∷ []) 1 0 (0 ∷ []) (omega arith));
+      differ = omega arith;
+    }
 
-set-one : (g : ToSet) (a b : Setting) (l m : List ℕ) → SettingOf g a l → SettingOf g b m → (a ≡ b) × (l ≡ m)
-set-one g a b l m r s = one-set-reply (g .file) (g .output) (g .pattern) (g .play) r s
+abbrev stuckInput : Fault
+stuckInput = record { site = Net 0; stuck = 0 }
 
-set-taken : (n p k : ℕ) → Setting.Unset n p ≢ Setting.Set k
-set-taken n p k e = let z : _≡_ {A = ℕ} 0 1 = cc in omega arith
+abbrev to-test : (play : List ℕ) → areBytes play ≡ true → ToTest
+to-test play r = record { file = lent straight refl; fault = stuckInput; stuck-byte = omega arith; play = lent play r }
 
-set-differs : Setting.Set 2 ≢ Setting.Set 1
-set-differs e = let z : _≡_ {A = ℕ} 2 1 = cc in omega arith
+-- of checking the two plays have one clock 0
+checks : Told checking
+unfolding working
+checks =
+    let late = check-reply straight (tt, tt) stuckInput (0 ∷ 1 ∷ []) 2 (omega arith) in
+    let never = check-reply straight (tt, tt) stuckInput (0 ∷ 0 ∷ []) 2 (omega arith) in
+    record {
+      one = λ g a b. one-check-reply (g .file .list) (g .fault) (g .play .list);
+      mark = λ a. elim a [ Checked.Shown t z ↦ 1 | Checked.NotSeen ↦ 2 | Checked.Refused n p ↦ 0 ];
+      refusals = λ n p. refl;
+      left = (to-test (0 ∷ 1 ∷ []) refl, ((late .0, []), late .1));
+      right = (to-test (0 ∷ 0 ∷ []) refl, ((never .0, []), never .1));
+      differ = omega arith;
+    }
 
--- Reading back: on the circuits of P1 and P5.
+searches : Told searching
+unfolding working
+searches =
+    record {
+      one = λ g a b h k. ap (λ c. c .0) (one-search-reply (g .file .list) (g .fault) (g .play .list) h k);
+      mark = λ a. elim a [ Searched.Found z m k ↦ 1 | Searched.Untestable k ↦ 2 | Searched.Refused n p ↦ 0 ];
+      refusals = λ n p. refl;
+      left = (to-test (0 ∷ []) refl, (_, small-circuits .p5-search (0 ∷ []) (omega arith)));
+      right = (
+        record { file = lent neverOne refl; fault = record { site = Net 2; stuck = 0 }; stuck-byte = omega arith; play = lent (0 ∷ []) refl },
+        (_, small-circuits .p6-search (0 ∷ []) (omega arith)),
+      );
+      differ = omega arith;
+    }
 
-read-one : (g : ToRead) (a b : Reading) (l m : List ℕ) → ReadingBack g a l → ReadingBack g b m → (a ≡ b) × (l ≡ m)
-read-one g a b l m r s = one-read-reply (g .file) (g .output) (g .play) (g .clock) (g .pattern) r s
+-- The tries in an answer of the search.
 
-read-taken : (n p k : ℕ) → Reading.Unread n p ≢ Reading.Read k
-read-taken n p k e = let z : _≡_ {A = ℕ} 0 1 = cc in omega arith
+search-tries : (file : List ℕ) (fault : Fault) (entry exit : List ℕ) (z m k : ℕ) → SearchReply file fault entry (Searched.Found z m k, exit)
+    → OfFile file (λ N B. (F : Search.Found N B fault z m k) × (k ≤ sumBelow (patterns B (F .out) (F .rel)) (N .outs)))
+search-tries file fault entry exit z m k (opened {N = N} o (prepared {d = d} {low = low} {k = c} P (goes-on _ (goes-on _ (goes-on _ (goes-on _ (finds F _ _))))))) =
+    (N, o, d, low, c, P, (F, bounded N (blocks N low) fault z m k F))
 
-read-differs : Reading.Read 2 ≢ Reading.Read 1
-read-differs e = let z : _≡_ {A = ℕ} 2 1 = cc in omega arith
-
--- Checking: two plays of one clock 0 on P5's circuit.
-
-check-one : (g : ToTest) (a b : Checked) (l m : List ℕ) → Checking g a l → Checking g b m → a ≡ b
-check-one g a b l m r s = one-check-reply (g .file) (g .fault) (g .play) r s
-
-shown-taken : (n p : ℕ) → Checked.Refused n p ≢ Checked.Shown 1 0
-shown-taken n p e = let z : _≡_ {A = ℕ} 0 1 = cc in omega arith
-
-never-taken : (n p : ℕ) → Checked.Refused n p ≢ Checked.NotShown
-never-taken n p e = let z : _≡_ {A = ℕ} 0 1 = cc in omega arith
-
-check-differs : Checked.Shown 1 0 ≢ Checked.NotShown
-check-differs e = let z : _≡_ {A = ℕ} 0 1 = cc in omega arith
-
--- Searching: P5 and P6.
-
-search-one : (g : ToTest) (a b : Searched) (l m : List ℕ) → Searching g a l → Searching g b m → (a ≡ b) × (l ≡ m)
-search-one g a b l m r s = one-search-reply (g .file) (g .fault) (g .play) r s
-
-found-taken : (n p : ℕ) → Searched.Refused n p ≢ Searched.Found 0 1 2
-found-taken n p e = let z : _≡_ {A = ℕ} 0 1 = cc in omega arith
-
-none-taken : (n p : ℕ) → Searched.Refused n p ≢ Searched.Untestable 2
-none-taken n p e = let z : _≡_ {A = ℕ} 0 1 = cc in omega arith
-
-search-differs : Searched.Found 0 1 2 ≢ Searched.Untestable 2
-search-differs e = let z : _≡_ {A = ℕ} 0 1 = cc in omega arith
-
-search-tries : (g : ToTest) (z m k : ℕ) (exit : List ℕ) → Searching g (Searched.Found z m k) exit
-    → (x : Parsed) × (low : ℕ → ℕ) × (F : Search.Found (chipOf x) (blocks (chipOf x) low) (g .fault) z m k)
-    × (k ≤ sumBelow (patterns (blocks (chipOf x) low) (F .out) (F .rel)) (chipOf x .outs))
-search-tries g z m k exit (finds {x = x} {low = low} fit known narrow F play sets shown wrote) =
-    (x, low, F, hit-bounded (chipOf x .outs) (patterns (blocks (chipOf x) low) (F .out) (F .rel)) (Search.Tried (chipOf x) (blocks (chipOf x) low) (stuck (g .fault)) (F .rel)) z m k (F .hit))
-
-search-all-tries : (g : ToTest) (k : ℕ) (exit : List ℕ) → Searching g (Searched.Untestable k) exit
-    → (x : Parsed) × (low : ℕ → ℕ) × (F : Search.Untestable (chipOf x) (blocks (chipOf x) low) (g .fault) k)
-    × (k ≡ sumBelow (patterns (blocks (chipOf x) low) (F .out) (F .rel)) (chipOf x .outs))
-search-all-tries g k exit (finds-none {x = x} {low = low} fit known narrow room F none) = (x, low, F, F .no-hit .tries)
+search-all-tries : (file : List ℕ) (fault : Fault) (entry exit : List ℕ) (k : ℕ) → SearchReply file fault entry (Searched.Untestable k, exit)
+    → OfFile file (λ N B. (F : Search.Untestable N B fault k) × (k ≡ sumBelow (patterns B (F .out) (F .rel)) (N .outs)))
+search-all-tries file fault entry exit k (opened {N = N} o (prepared {d = d} {low = low} {k = c} P (goes-on _ (goes-on _ (goes-on _ (goes-on _ (finds-none F _))))))) =
+    (N, o, d, low, c, P, (F, F .no-hit .tries))
 
 pub shut-out : ShutOut
+unfolding working transforms sets reads checks searches
 shut-out =
     record {
-      class-refuses = refuses-out ToClass Classed Classing Classed.Refused class-one (toClass listing refl) (Classed.Class 2 1 2) [] (small-circuits .p1) (λ n p. class-taken n p 2 1 2);
-      class-constant = constant-out ToClass Classed Classing Classed.Refused class-one (toClass listing refl) (toClass straight refl) (Classed.Class 2 1 2) (Classed.Class 3 0 1) [] [] (small-circuits .p1) (small-circuits .p5)
-          (λ n p. class-taken n p 2 1 2) (λ n p. class-taken n p 3 0 1) class-differs;
-      class-hanging = λ answers lowest all.
-          place-differs (sym (lowest (toClass hanging refl) hung 1 hung-read (2, hung-loop, hung-hangs) unhung) ∙ one-class-reply hanging (all (toClass hanging refl)) (refuses (small-circuits .p9-hanging)));
-      transform-refuses = refuses-out ToTransform Transformed Transforming Transformed.Refused (λ g a b l m r s. transform-one g a b l m r s .0) listing-out (Transformed.Written 21) _ P3 (λ n p. transform-taken n p 21);
-      transform-constant = constant-out ToTransform Transformed Transforming Transformed.Refused (λ g a b l m r s. transform-one g a b l m r s .0) listing-out straight-out (Transformed.Written 21) (Transformed.Written 10) _ _ P3
-          (through-transformed (replicate 10 0) (omega arith)) (λ n p. transform-taken n p 21) (λ n p. transform-taken n p 10) transform-differs;
-      transform-idle = idle-out ToTransform Transformed Transforming (λ g a b l m r s. transform-one g a b l m r s .1) (λ g. g .out) listing-out (Transformed.Written 21) _ P3 (omega arith);
-      set-refuses = refuses-out ToSet Setting SettingOf Setting.Unset (λ g a b l m r s. set-one g a b l m r s .0) listing-set (Setting.Set 2) _ P2 (λ n p. set-taken n p 2);
-      set-constant = constant-out ToSet Setting SettingOf Setting.Unset (λ g a b l m r s. set-one g a b l m r s .0) listing-set (set-on-straight (1 ∷ []) refl) (Setting.Set 2) (Setting.Set 1) _ _ P2
-          (through-set (0 ∷ []) (omega arith)) (λ n p. set-taken n p 2) (λ n p. set-taken n p 1) set-differs;
-      set-idle = idle-out ToSet Setting SettingOf (λ g a b l m r s. set-one g a b l m r s .1) (λ g. g .play) listing-set (Setting.Set 2) _ P2 (omega arith);
-      set-byte = without-out ToSet Setting SettingOf Setting.Unset (λ g a b l m r s. set-one g a b l m r s .0) 18 (set-on-straight (2 ∷ []) refl) 0 _ (through-set-two (0 ∷ []));
-      read-refuses = refuses-out ToRead Reading ReadingBack Reading.Unread (λ g a b l m r s. read-one g a b l m r s .0) listing-read (Reading.Read 2) _ back (λ n p. read-taken n p 2);
-      read-constant = constant-out ToRead Reading ReadingBack Reading.Unread (λ g a b l m r s. read-one g a b l m r s .0) listing-read (read-on-straight (1 ∷ []) refl 0) (Reading.Read 2) (Reading.Read 1) _ _ back
-          (through-back (0 ∷ []) (omega arith)) (λ n p. read-taken n p 2) (λ n p. read-taken n p 1) read-differs;
-      read-idle = idle-out ToRead Reading ReadingBack (λ g a b l m r s. read-one g a b l m r s .1) (λ g. g .pattern) listing-read (Reading.Read 2) _ back (omega arith);
-      read-byte = without-out ToRead Reading ReadingBack Reading.Unread (λ g a b l m r s. read-one g a b l m r s .0) 18 (read-on-straight (2 ∷ []) refl 0) 0 _ (through-back-two (0 ∷ []));
-      read-clock = without-out ToRead Reading ReadingBack Reading.Unread (λ g a b l m r s. read-one g a b l m r s .0) 19 (read-on-straight (1 ∷ []) refl 1) 1 _ (through-late (0 ∷ []));
-      check-refuses = refuses-out ToTest Checked Checking Checked.Refused check-one (to-check (0 ∷ 1 ∷ []) refl) (Checked.Shown 1 0) [] late shown-taken;
-      check-constant = constant-out ToTest Checked Checking Checked.Refused check-one (to-check (0 ∷ 1 ∷ []) refl) (to-check (0 ∷ 0 ∷ []) refl) (Checked.Shown 1 0) Checked.NotShown [] [] late never shown-taken never-taken check-differs;
-      check-byte = without-out ToTest Checked Checking Checked.Refused check-one 18 (to-check (2 ∷ []) refl) 0 [] above;
-      check-clock-0 = λ answers all.
-          check-differs
-          (one-check-reply straight stuckInput (0 ∷ 1 ∷ []) late (all (to-check (0 ∷ 1 ∷ []) refl)) ∙ one-check-reply straight stuckInput (0 ∷ 0 ∷ []) (all (to-check (0 ∷ 0 ∷ []) refl)) never);
-      search-refuses = refuses-out ToTest Searched Searching Searched.Refused (λ g a b l m r s. search-one g a b l m r s .0) straight-search (Searched.Found 0 1 2) _ P5 found-taken;
-      search-constant = constant-out ToTest Searched Searching Searched.Refused (λ g a b l m r s. search-one g a b l m r s .0) straight-search never-search (Searched.Found 0 1 2) (Searched.Untestable 2) _ _ P5 P6 found-taken none-taken search-differs;
-      search-idle = idle-out ToTest Searched Searching (λ g a b l m r s. search-one g a b l m r s .1) (λ g. g .play) straight-search (Searched.Found 0 1 2) _ P5 (omega arith);
+      class-refuses = refuses-out classing classes;
+      class-constant = constant-out classing classes;
+      class-hanging = λ version kind all.
+          let g = lent hanging refl in
+          let e : Classed.Refused 9 1 ≡ Classed.Refused 9 2 = sym (kind g (hung .0) 1 (hung .1) (hung .2)) ∙ one-class-reply hanging (all g) (unopened (small-circuits .p9-hanging)) in
+          let z : _≡_ {A = ℕ} 1 2 = cc in
+          omega arith;
+      transform-refuses = refuses-out transforming transforms;
+      transform-constant = constant-out transforming transforms;
+      transform-idle = idle-out transforming (λ g a b. one-transform-reply (g .file .list) (g .out .list)) (λ g. g .out .list) (transforms .left) (omega arith);
+      set-refuses = refuses-out setting sets;
+      set-constant = constant-out setting sets;
+      set-idle = idle-out setting (λ g a b. one-set-reply (g .file .list) (g .output) (g .pattern .list) (g .play .list)) (λ g. g .play .list) (sets .left) (omega arith);
+      set-byte = without-out setting sets 18 0 (to-set (2 ∷ []) refl, set-reply straight (tt, tt) 0 (2 ∷ []) (0 ∷ []) (omega arith)) refl;
+      read-refuses = refuses-out reading reads;
+      read-constant = constant-out reading reads;
+      read-idle = idle-out reading (λ g a b. one-read-reply (g .file .list) (g .output) (g .play .list) (g .clock) (g .pattern .list)) (λ g. g .pattern .list) (reads .left) (omega arith);
+      read-byte = without-out reading reads 18 0 (to-read (2 ∷ []) refl 0, read-reply straight (tt, tt) 0 (2 ∷ []) 1 0 (0 ∷ []) (omega arith)) refl;
+      read-clock = without-out reading reads 19 1 (to-read (1 ∷ []) refl 1, read-reply straight (tt, tt) 0 (1 ∷ []) 1 1 (0 ∷ []) (omega arith)) refl;
+      check-refuses = refuses-out checking checks;
+      check-constant = constant-out checking checks;
+      check-byte = let w = check-reply straight (tt, tt) stuckInput (2 ∷ []) 1 (omega arith) in without-out checking checks 18 0 (to-test (2 ∷ []) refl, ((w .0, []), w .1)) refl;
+      check-clock-0 = λ version (answer, kind) all.
+          let e = same checking checks (checks .left) version all in
+          let f = same checking checks (checks .right) version all in
+          checks .differ .2 (ap (checks .mark) (sym e ∙ kind (checks .left .0) ∙ sym (kind (checks .right .0)) ∙ f));
+      search-refuses = refuses-out searching searches;
+      search-constant = constant-out searching searches;
+      search-idle = idle-out searching (λ g a b. one-search-reply (g .file .list) (g .fault) (g .play .list)) (λ g. g .play .list) (searches .left) (omega arith);
       search-tries = search-tries;
       search-all-tries = search-all-tries;
     }
-  where
-    toClass : (file : List ℕ) → bytes file ≡ true → ToClass
-    toClass file b = record { file = file; file-bytes = b }
-
-    listing-out : ToTransform
-    listing-out = record { file = listing; out = replicate 21 0; file-bytes = refl; out-bytes = refl }
-
-    straight-out : ToTransform
-    straight-out = record { file = straight; out = replicate 10 0; file-bytes = refl; out-bytes = refl }
-
-    listing-set : ToSet
-    listing-set = record { file = listing; output = 0; pattern = 1 ∷ 0 ∷ []; play = 0 ∷ 0 ∷ []; file-bytes = refl; pattern-bytes = refl; play-bytes = refl }
-
-    set-on-straight : (pattern : List ℕ) → bytes pattern ≡ true → ToSet
-    set-on-straight pattern b = record { file = straight; output = 0; pattern = pattern; play = 0 ∷ []; file-bytes = refl; pattern-bytes = b; play-bytes = refl }
-
-    listing-read : ToRead
-    listing-read = record { file = listing; output = 0; play = 1 ∷ 0 ∷ []; clock = 1; pattern = 0 ∷ 0 ∷ []; file-bytes = refl; play-bytes = refl; pattern-bytes = refl }
-
-    read-on-straight : (play : List ℕ) → bytes play ≡ true → ℕ → ToRead
-    read-on-straight play b clock = record { file = straight; output = 0; play = play; clock = clock; pattern = 0 ∷ []; file-bytes = refl; play-bytes = b; pattern-bytes = refl }
-
-    to-check : (play : List ℕ) → bytes play ≡ true → ToTest
-    to-check play b = record { file = straight; fault = stuckInput; play = play; file-bytes = refl; stuck-byte = omega arith; play-bytes = b }
-
-    straight-search : ToTest
-    straight-search = to-check (0 ∷ []) refl
-
-    never-search : ToTest
-    never-search = record { file = neverOne; fault = record { site = Net 2; stuck = 0 }; play = 0 ∷ []; file-bytes = refl; stuck-byte = omega arith; play-bytes = refl }
-
-    P2 : SetReply listing 0 (1 ∷ 0 ∷ []) (0 ∷ 0 ∷ []) (Setting.Set 2) (1 ∷ 0 ∷ [])
-    P2 = small-circuits .p2 (0 ∷ 0 ∷ []) (omega arith)
-
-    P3 : TransformReply listing (replicate 21 0) (Transformed.Written 21) (listingTransformed ++ [])
-    P3 = small-circuits .p3 (replicate 21 0) (omega arith)
-
-    back : ReadReply listing 0 (1 ∷ 0 ∷ []) 1 (0 ∷ 0 ∷ []) (Reading.Read 2) (1 ∷ 0 ∷ [])
-    back = listed-back (0 ∷ 0 ∷ []) (omega arith)
-
-    P5 : SearchReply straight stuckInput (0 ∷ []) (Searched.Found 0 1 2) (1 ∷ [])
-    P5 = small-circuits .p5-search (0 ∷ []) (omega arith)
-
-    P6 : SearchReply neverOne (record { site = Net 2; stuck = 0 }) (0 ∷ []) (Searched.Untestable 2) (0 ∷ [])
-    P6 = small-circuits .p6-search (0 ∷ []) (omega arith)

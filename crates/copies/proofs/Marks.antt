@@ -13,13 +13,12 @@ use lib.ListN.{length, getD, set, length-set}
 use lib.Seq.{getD-set-same, getD-set-other}
 use Rattle.chip.specs.Netlist.{Netlist, InLimits, firstPin, allPins, bit}
 use Rattle.chip.specs.Pads.{some, isBuf, fed, back, source, branchOf}
-use Rattle.chip.specs.Class.{LoopFree}
+use Rattle.chip.specs.Class.{LoopFree, Blocks}
 use Rattle.chip.specs.Transformed.{onWay}
 use Rattle.chip.proofs.Bools.{and-no, or-no, or-yes}
 use Rattle.chip.proofs.Basics.{Ranked}
 use Rattle.chip.proofs.Loops.{ranked}
 use Rattle.chip.proofs.Pads.{fed-input, fed-buf, pad-buf, branch-in, back-source, back-named}
-use Rattle.chip.specs.Class.{Blocks}
 use Rattle.copies.specs.Inner.Marks.{WayMarked, flatWay, FlatMarks}
 
 -- among the first k steps back from the net of pin p is the net of the cell that place l stands for, if cell 0 has place base

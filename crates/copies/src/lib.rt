@@ -8,6 +8,12 @@ ghost use Rattle.chip.specs.Inner.Tables.{tabled, FirstPins, BranchTable};
 ghost use Rattle.chip.specs.Class.{LoopFree, Lowest, blocks};
 ghost use Rattle.copies.specs.Inner.Marks.{WayMarked, FlatMarks, FirstBlocks, NextBlock, LowestBlocks, Copies};
 ghost use Rattle.blocks.specs.Labels.{BlockTable, Numbered};
+use chip::Block;
+use chip::Branches;
+use chip::Counts;
+use chip::Firsts;
+use chip::Kinds;
+use chip::Nets;
 use chip::wide;
 use chip::wide8;
 
@@ -16,10 +22,10 @@ fn mark_way(
     i: usize,
     c: usize,
     o: usize,
-    kinds: &[u8; 1024],
-    counts: &[u8; 1024],
-    firsts: &[u16; 1025],
-    nets: &[u16; 4096],
+    kinds: &Kinds,
+    counts: &Counts,
+    firsts: &Firsts,
+    nets: &Nets,
     p: usize,
     base: usize,
     marks: &mut [u8],
@@ -50,12 +56,12 @@ fn mark_pin(
     i: usize,
     c: usize,
     o: usize,
-    kinds: &[u8; 1024],
-    counts: &[u8; 1024],
-    firsts: &[u16; 1025],
-    nets: &[u16; 4096],
-    branches: &[u16; 4096],
-    block: &[u16; 4096],
+    kinds: &Kinds,
+    counts: &Counts,
+    firsts: &Firsts,
+    nets: &Nets,
+    branches: &Branches,
+    block: &Block,
     lowest: &[u16; 64],
     p: usize,
     marks: &mut [u8],
@@ -89,12 +95,12 @@ fn mark_copies(
     c: usize,
     o: usize,
     n: usize,
-    kinds: &[u8; 1024],
-    counts: &[u8; 1024],
-    firsts: &[u16; 1025],
-    nets: &[u16; 4096],
-    branches: &[u16; 4096],
-    block: &[u16; 4096],
+    kinds: &Kinds,
+    counts: &Counts,
+    firsts: &Firsts,
+    nets: &Nets,
+    branches: &Branches,
+    block: &Block,
     lowest: &[u16; 64],
     marks: &mut [u8],
 )
@@ -131,7 +137,7 @@ fn mark_copies(
 }
 
 // The number after r and the block of pin p, if it is a branch of input x.
-fn after_pin(branches: &[u16; 4096], block: &[u16; 4096], x: usize, r: usize, p: usize) -> usize
+fn after_pin(branches: &Branches, block: &Block, x: usize, r: usize, p: usize) -> usize
     requires { ⌜ (p < 4096) × (r ≤ 65) × (getD (now branches) p 0 ≡ x → getD (now block) p 0 < 64) ⌝ }
     ensures { λ s. ⌜ (s ≤ 65) × ((at : ℕ) → NextBlock (now (branches .entry)) (now (block .entry)) x at p r → NextBlock (now (branches .entry)) (now (block .entry)) x at (p + 1) s) ⌝ }
 {
@@ -146,7 +152,7 @@ fn after_pin(branches: &[u16; 4096], block: &[u16; 4096], x: usize, r: usize, p:
 }
 
 // The number after block `at` and all blocks of branches of input x.
-fn next_block(n: usize, branches: &[u16; 4096], block: &[u16; 4096], x: usize, at: usize) -> usize
+fn next_block(n: usize, branches: &Branches, block: &Block, x: usize, at: usize) -> usize
     requires { ⌜ (n ≤ 4096) × (at ≤ 64) × ((p : ℕ) → p < n → getD (now branches) p 0 ≡ x → getD (now block) p 0 < 64) ⌝ }
     ensures { λ r. ⌜ NextBlock (now (branches .entry)) (now (block .entry)) x at n r ⌝ }
 {
@@ -165,11 +171,11 @@ fn lowest_blocks(
     c: usize,
     o: usize,
     n: usize,
-    kinds: &[u8; 1024],
-    counts: &[u8; 1024],
-    nets: &[u16; 4096],
-    branches: &[u16; 4096],
-    block: &[u16; 4096],
+    kinds: &Kinds,
+    counts: &Counts,
+    nets: &Nets,
+    branches: &Branches,
+    block: &Block,
     table: &mut [u16],
 )
     requires { ⌜ InLimits (tabled i c o (now kinds) (now counts) (now nets)) ⌝ }
@@ -213,12 +219,12 @@ pub fn find_copies(
     o: usize,
     n: usize,
     b: usize,
-    kinds: &[u8; 1024],
-    counts: &[u8; 1024],
-    firsts: &[u16; 1025],
-    nets: &[u16; 4096],
-    branches: &[u16; 4096],
-    block: &[u16; 4096],
+    kinds: &Kinds,
+    counts: &Counts,
+    firsts: &Firsts,
+    nets: &Nets,
+    branches: &Branches,
+    block: &Block,
     lowest: &mut [u16; 64],
     marks: &mut [u8],
     numbers: &mut [u16],

@@ -15,7 +15,7 @@ use Rattle.chip.specs.Faults.{Lines, Run, ones, sees}
 use Rattle.chip.specs.Search.{digit, width, pattern}
 use Rattle.chip.proofs.Basics.{Ranked, Counted, gate-flat, net-cases, pin-in, reach-in, first-pin}
 use Rattle.chip.proofs.LookBack.{Back, makesOf, run-back}
-use Rattle.chip.proofs.Transformed.{at-out}
+use Rattle.chip.proofs.Transforming.{at-out}
 use Rattle.chip.proofs.Pads.{branch-is, source-input}
 use Rattle.chip.proofs.Direct.{direct-branch, direct-cell, direct-cases, direct-sound, direct-ranked, direct-within, from-direct, direct-outside}
 use Rattle.chip.proofs.Blocks.{counted, tally-past}

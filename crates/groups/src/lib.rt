@@ -11,6 +11,13 @@ ghost use Rattle.alone.specs.Alone.{Went};
 ghost use Rattle.groups.specs.Groups.{Joined, Alike, Parted};
 ghost use Rattle.stages.specs.Stage.{Watch, OutsOnly, Stage};
 ghost use Rattle.groups.specs.Chunks.{Store, GoodWords, Alone, ChunkStep, ChunkTried, GroupTried};
+use chip::Branches;
+use chip::Counts;
+use chip::Firsts;
+use chip::Kinds;
+use chip::Nets;
+use chip::Order;
+use chip::Reached;
 
 // The outputs that some of the first n words has.
 pub fn left_all(n: usize, left: &[u64]) -> u64
@@ -36,7 +43,7 @@ fn part(g: u64, word: u64, z: usize) -> u64
 }
 
 // Outputs with the same of the b blocks behind them as output z.
-pub fn group_of(z: usize, b: usize, reached: &[u64; 4160]) -> u64
+pub fn group_of(z: usize, b: usize, reached: &Reached) -> u64
     requires { ⌜ (z < 64) × (b ≤ 4160) ⌝ }
     ensures { λ r. ⌜ Alike b z (now (reached .entry)) r ⌝ }
 {
@@ -80,17 +87,17 @@ fn try_alone(
     w: usize,
     q: usize,
     u: u64,
-    kinds: &[u8; 1024],
-    counts: &[u8; 1024],
-    firsts: &[u16; 1025],
-    nets: &[u16; 4096],
-    order: &[u16; 1024],
-    branches: &[u16; 4096],
+    kinds: &Kinds,
+    counts: &Counts,
+    firsts: &Firsts,
+    nets: &Nets,
+    order: &Order,
+    branches: &Branches,
     sources: &[u16],
     reach: &[u64],
     heads: &[u16],
     readers: &[u16],
-    src: &[u16; 4096],
+    src: &Nets,
     outs: &[u16],
     list: &[u16],
     input: &[u8],
@@ -169,17 +176,17 @@ fn try_chunk(
     w: usize,
     q: usize,
     u: u64,
-    kinds: &[u8; 1024],
-    counts: &[u8; 1024],
-    firsts: &[u16; 1025],
-    nets: &[u16; 4096],
-    order: &[u16; 1024],
-    branches: &[u16; 4096],
+    kinds: &Kinds,
+    counts: &Counts,
+    firsts: &Firsts,
+    nets: &Nets,
+    order: &Order,
+    branches: &Branches,
     sources: &[u16],
     reach: &[u64],
     heads: &[u16],
     readers: &[u16],
-    src: &[u16; 4096],
+    src: &Nets,
     outs: &[u16],
     list: &[u16],
     input: &[u8],
@@ -276,17 +283,17 @@ pub fn try_group(
     n: usize,
     w: usize,
     g: u64,
-    kinds: &[u8; 1024],
-    counts: &[u8; 1024],
-    firsts: &[u16; 1025],
-    nets: &[u16; 4096],
-    order: &[u16; 1024],
-    branches: &[u16; 4096],
+    kinds: &Kinds,
+    counts: &Counts,
+    firsts: &Firsts,
+    nets: &Nets,
+    order: &Order,
+    branches: &Branches,
     sources: &[u16],
     reach: &[u64],
     heads: &[u16],
     readers: &[u16],
-    src: &[u16; 4096],
+    src: &Nets,
     outs: &[u16],
     list: &[u16],
     input: &[u8],

@@ -11,7 +11,8 @@ use Rattle.chip.specs.Class.{blocks}
 use Rattle.chip.specs.Faults.{stuck}
 use Rattle.chip.specs.Search.{digit, width, Tried}
 use Rattle.flip.specs.Bed.{Bed}
-use Rattle.bridge.specs.Chunk.{Chunk, faultNumber}
+use Rattle.bridge.specs.Chunk.{Chunk}
+use Rattle.faults.specs.Numbers.{faultNumber}
 use Rattle.cells.specs.Cells.{Good}
 use Rattle.known.specs.Known.{Known}
 

@@ -2,13 +2,13 @@
 ghost use Prim.Native.Nat.{_≤_};
 ghost use mathlib.Core.Logic.{_≢_};
 ghost use lib.ListN.{length};
-ghost use Rattle.chip.specs.Inner.Tables.{tabled};
-ghost use Rattle.walk.specs.Walk.{Ready};
+ghost use Rattle.opening.specs.Open.{IsOpen};
 use chip::Fault;
+use chip::Searched;
 use chip::Site;
-use netlist::Reading;
-use search::Searched;
-use structure::Found;
+use netlist::Sizes;
+use opening::Chip;
+use opening::Opening;
 use structure::Shape;
 
 // The site and the stuck value.
@@ -48,107 +48,40 @@ fn answer(r: Searched, play: &[u8], i: usize, d: usize, line: &mut [u8; 65536], 
 }
 
 // The line of sizes.
-fn sizes(i: usize, c: usize, o: usize, s: Shape, line: &mut [u8; 65536], used: &mut usize) {
-    lines::field(line, used, b"in ", i);
-    lines::field(line, used, b" cells ", c);
-    lines::field(line, used, b" out ", o);
+fn sizes(z: Sizes, s: Shape, line: &mut [u8; 65536], used: &mut usize) {
+    lines::field(line, used, b"in ", z.inputs);
+    lines::field(line, used, b" cells ", z.cells);
+    lines::field(line, used, b" out ", z.outputs);
     lines::field(line, used, b" depth ", s.depth);
     lines::field(line, used, b" class ", chip::wide8(s.class));
     lines::field(line, used, b" blocks ", s.blocks);
     lines::text(line, used, b"\n");
 }
 
-// The listing of a chip that is prepared.
-fn list(
-    i: usize,
-    c: usize,
-    o: usize,
-    n: usize,
-    s: Shape,
-    kinds: &[u8; 1024],
-    counts: &[u8; 1024],
-    firsts: &[u16; 1025],
-    nets: &[u16; 4096],
-    order: &[u16; 1024],
-    branches: &[u16; 4096],
-    block: &[u16; 4096],
-    reached: &[u64; 4160],
-    cone: &[u64; 4096],
-    play: &mut [u8],
-    line: &mut [u8; 65536],
-    used: &mut usize,
-)
-    requires { ⌜ Ready (tabled i c o (now kinds) (now counts) (now nets)) n s (now firsts) (now order) (now branches) (now block) (now reached) (now cone) ⌝ }
-    requires { ⌜ (s .class ≢ 1) × (16384 ≤ length (now play)) ⌝ }
+// The listing of an open chip of class 2 or 3.
+fn list(opened: Chip, play: &mut [u8], line: &mut [u8; 65536], used: &mut usize)
+    requires { ⌜ IsOpen opened × (opened .shape .class ≢ 1) × (16384 ≤ length (now play)) ⌝ }
 {
-    sizes(i, c, o, s, line, used);
-    let mut spots = [0u16; 1024];
-    spots::find_spots(
-        i,
-        c,
-        o,
-        n,
-        s,
-        kinds,
-        counts,
-        firsts,
-        nets,
-        order,
-        branches,
-        block,
-        reached,
-        &mut spots,
-    );
-    let mut sites = [0u64; 5184];
-    let mut widths = [0u16; 64];
-    let mut best = [64u8; 10368];
-    let mut pat = [0u32; 10368];
-    let all = 2 * (i + c + n);
-    let wides = verdicts::judge(
-        0,
-        all,
-        i,
-        c,
-        o,
-        n,
-        s,
-        kinds,
-        counts,
-        firsts,
-        nets,
-        order,
-        branches,
-        block,
-        reached,
-        cone,
-        &mut sites,
-        &mut widths,
-        &mut best,
-        &mut pat,
-    );
+    let z = opened.sizes;
+    let s = opened.shape;
+    sizes(z, s, line, used);
+    let found = bumblereed::survey(opened);
+    let all = 2 * (z.inputs + z.cells + z.pins);
     for k in 0..all {
-        let fault = buffers::fault_at(i + c, k);
-        name(fault, line, used);
-        let r = search::search_listed(
-            i,
-            c,
-            o,
-            n,
+        name(bumblereed::fault_at(z.inputs + z.cells, k), line, used);
+        let r = bumblereed::search_listed(
+            z,
             s,
             k,
-            kinds,
-            counts,
-            nets,
-            reached,
-            wides,
-            &sites,
-            &widths,
-            &best,
-            &pat,
-            &spots,
+            found.wides,
+            &found.sites,
+            &found.widths,
+            &found.best,
+            &found.pat,
+            &found.spots,
             play,
         );
-        answer(r, play, i, s.depth, line, used);
+        answer(r, play, z.inputs, s.depth, line, used);
     }
 }
 
@@ -158,86 +91,25 @@ fn refused(number: u8, place: usize, line: &mut [u8; 65536], used: &mut usize) {
     lines::text(line, used, b"\n");
 }
 
-// The listing of a file, or the line of its refusal.
+// The listing of a file, or the line of its refusal: 1 to 10, and 11.
 fn list_file(file: &[u8], play: &mut [u8], line: &mut [u8; 65536], used: &mut usize)
     requires { ⌜ 16384 ≤ length (now play) ⌝ }
 {
-    let t = netlist::read(file);
-    let reading = t.reading;
-    let z = match reading {
-        Reading::Refused(k, p) => {
+    let opened = bumblereed::open(file);
+    let opening = opened.opening;
+    let s = opened.shape;
+    match opening {
+        Opening::Refused(k, p) => {
             refused(k, p, line, used);
             return;
         }
-        Reading::Taken(z) => z,
-    };
-    let kinds = t.kinds;
-    let counts = t.counts;
-    let nets = t.nets;
-    let mut firsts = [0u16; 1025];
-    let mut order = [0u16; 1024];
-    let mut branches = [0u16; 4096];
-    let mut block = [0u16; 4096];
-    let mut reached = [0u64; 4160];
-    let s = match structure::prepare(
-        z.inputs,
-        z.cells,
-        z.outputs,
-        z.pins,
-        &kinds,
-        &counts,
-        &nets,
-        &mut firsts,
-        &mut order,
-        &mut branches,
-        &mut block,
-        &mut reached,
-    ) {
-        Found::Looped(m) => {
-            refused(9, m, line, used);
-            return;
-        }
-        Found::TooDeep(y) => {
-            refused(10, y, line, used);
-            return;
-        }
-        Found::Chip(s) => s,
-    };
+        Opening::Open => {}
+    }
     if s.class == 1 {
         refused(11, s.place, line, used);
         return;
     }
-    let mut cone = [0u64; 4096];
-    walk::reach_masks(
-        z.inputs,
-        z.cells,
-        z.outputs,
-        &kinds,
-        &counts,
-        &firsts,
-        &nets,
-        &order,
-        &mut cone,
-    );
-    list(
-        z.inputs,
-        z.cells,
-        z.outputs,
-        z.pins,
-        s,
-        &kinds,
-        &counts,
-        &firsts,
-        &nets,
-        &order,
-        &branches,
-        &block,
-        &reached,
-        &cone,
-        play,
-        line,
-        used,
-    );
+    list(opened, play, line, used);
 }
 
 // Writes the listing of a file to standard output.

@@ -7,7 +7,7 @@ use Rattle.chip.specs.Netlist.{Netlist}
 use Rattle.chip.specs.Class.{Feeds}
 use Rattle.chip.proofs.Loops.{fed-cell}
 use Rattle.order.specs.Settled.{LoopFrom}
-use Rattle.loops.specs.Loops.{LowestLoop}
+use Rattle.chip.specs.Refusals.{When9}
 
 -- none of the cells from one to before another has a net that reaches itself
 abbrev pub NoneTo : Netlist → ℕ → ℕ → Type 0
@@ -23,8 +23,8 @@ module _ {N : Netlist} {from j : ℕ} (L : LoopFrom N from) (none : NoneTo N fro
         none (m - N .inputs) (omega arith) (omega arith) (subst (λ n. Feeds N n n) q f)
   ]
 
-  pub lowest : Feeds N (N .inputs + j) (N .inputs + j) → LowestLoop N (N .inputs + j)
-  lowest f = record { loops = f; none-below = below }
+  pub lowest : Feeds N (N .inputs + j) (N .inputs + j) → When9 N (N .inputs + j)
+  lowest f = record { holds = f; none-below = below }
 
   -- and the cells do not end before it is found
   pub found : N .cells ≤ j → ⊥

@@ -5,11 +5,6 @@ use mathlib.Core.Bool.{Bool, true, false}
 use Rattle.chip.specs.Netlist.{Netlist}
 use Rattle.chip.specs.Class.{Feeds}
 
--- net n reaches itself, and none below it does
-pub record LowestLoop (N : Netlist) (n : ℕ) : Type 0 where
-  pub loops : Feeds N n n
-  pub none-below : (m : ℕ) → m < n → ¬ Feeds N m m
-
 -- the answer whether the net of cell j reaches itself
 pub record OnLoop (N : Netlist) (j : ℕ) (r : Bool) : Type 0 where
   pub is : r ≡ true → Feeds N (N .inputs + j) (N .inputs + j)

@@ -5,8 +5,12 @@ ghost use lib.ListN.{getD};
 ghost use Rattle.chip.specs.Inner.Tables.{FirstPins, tabled};
 ghost use Rattle.order.specs.Placed.{Wired, Listed};
 ghost use Rattle.order.specs.Settled.{LoopFrom};
-ghost use Rattle.loops.specs.Loops.{LowestLoop, OnLoop};
+ghost use Rattle.chip.specs.Refusals.{When9};
+ghost use Rattle.loops.specs.Loops.{OnLoop};
 ghost use Rattle.loops.specs.Walk.{Followed};
+use chip::CELLS;
+use chip::Firsts;
+use chip::Nets;
 use chip::wide;
 use order::is_fed;
 
@@ -14,8 +18,8 @@ use order::is_fed;
 fn follow(
     i: usize,
     c: usize,
-    firsts: &[u16; 1025],
-    nets: &[u16; 4096],
+    firsts: &Firsts,
+    nets: &Nets,
     j: usize,
     list: &mut [u16],
     places: &mut [u16],
@@ -43,13 +47,13 @@ fn follow(
 }
 
 // Whether a cell's net reaches itself: the cells that feed it are listed, and the cell may be one of them.
-fn on_loop(i: usize, c: usize, firsts: &[u16; 1025], nets: &[u16; 4096], own: usize) -> bool
+fn on_loop(i: usize, c: usize, firsts: &Firsts, nets: &Nets, own: usize) -> bool
     requires { ⌜ Wired i c (now firsts) (now nets) ⌝ }
     requires { ⌜ own < c ⌝ }
     ensures { λ r. ⌜ ((o : ℕ) (kinds counts : List ℕ) → FirstPins (tabled i c o kinds counts (now (nets .entry))) (now (firsts .entry)) → OnLoop (tabled i c o kinds counts (now (nets .entry))) own r) ⌝ }
 {
     let mut list = [0u16; 1024];
-    let mut places = [0u16; 1024];
+    let mut places = [0u16; CELLS];
     let mut n = follow(i, c, firsts, nets, own, &mut list, &mut places, 0);
     let mut k = 0;
     while k < n {
@@ -61,15 +65,9 @@ fn on_loop(i: usize, c: usize, firsts: &[u16; 1025], nets: &[u16; 4096], own: us
 }
 
 // The lowest net that reaches itself, of a netlist in which some net does and none below that of cell `from`.
-pub fn lowest_on_loop(
-    i: usize,
-    c: usize,
-    firsts: &[u16; 1025],
-    nets: &[u16; 4096],
-    from: usize,
-) -> usize
+pub fn lowest_on_loop(i: usize, c: usize, firsts: &Firsts, nets: &Nets, from: usize) -> usize
     requires { ⌜ Wired i c (now firsts) (now nets) ⌝ }
-    ensures { λ r. ⌜ ((o : ℕ) (kinds counts : List ℕ) → FirstPins (tabled i c o kinds counts (now (nets .entry))) (now (firsts .entry)) → LoopFrom (tabled i c o kinds counts (now (nets .entry))) from → LowestLoop (tabled i c o kinds counts (now (nets .entry))) r) ⌝ }
+    ensures { λ r. ⌜ ((o : ℕ) (kinds counts : List ℕ) → FirstPins (tabled i c o kinds counts (now (nets .entry))) (now (firsts .entry)) → LoopFrom (tabled i c o kinds counts (now (nets .entry))) from → When9 (tabled i c o kinds counts (now (nets .entry))) r) ⌝ }
 {
     for j in from..c {
         if on_loop(i, c, firsts, nets, j) {

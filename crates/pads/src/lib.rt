@@ -6,6 +6,13 @@ ghost use Rattle.chip.specs.Netlist.{allPins, InLimits};
 ghost use Rattle.chip.specs.Inner.Tables.{tabled, FirstPins, BranchTable};
 ghost use Rattle.order.specs.Order.{Ordered};
 ghost use Rattle.pads.specs.Sources.{sourceOf, Inputs, SourceTable, Named};
+use chip::ALL_NETS;
+use chip::Counts;
+use chip::Firsts;
+use chip::Kinds;
+use chip::Nets;
+use chip::Order;
+use chip::PINS;
 use chip::wide;
 
 // The source of a cell's net: that of the net that feeds it, if the cell is a BUF behind one of the i inputs, else itself.
@@ -37,11 +44,11 @@ fn cell_sources(
     i: usize,
     c: usize,
     o: usize,
-    kinds: &[u8; 1024],
-    counts: &[u8; 1024],
-    firsts: &[u16; 1025],
-    nets: &[u16; 4096],
-    order: &[u16; 1024],
+    kinds: &Kinds,
+    counts: &Counts,
+    firsts: &Firsts,
+    nets: &Nets,
+    order: &Order,
     table: &mut [u16],
 )
     requires { ⌜ InLimits (tabled i c o (now kinds) (now counts) (now nets)) ⌝ }
@@ -65,11 +72,11 @@ pub fn sources(
     i: usize,
     c: usize,
     o: usize,
-    kinds: &[u8; 1024],
-    counts: &[u8; 1024],
-    firsts: &[u16; 1025],
-    nets: &[u16; 4096],
-    order: &[u16; 1024],
+    kinds: &Kinds,
+    counts: &Counts,
+    firsts: &Firsts,
+    nets: &Nets,
+    order: &Order,
     table: &mut [u16],
 )
     requires { ⌜ InLimits (tabled i c o (now kinds) (now counts) (now nets)) ⌝ }
@@ -88,9 +95,9 @@ fn pin_sources(
     c: usize,
     o: usize,
     n: usize,
-    kinds: &[u8; 1024],
-    counts: &[u8; 1024],
-    nets: &[u16; 4096],
+    kinds: &Kinds,
+    counts: &Counts,
+    nets: &Nets,
     sources: &[u16],
     table: &mut [u16],
 )
@@ -113,10 +120,10 @@ fn leave_out(
     c: usize,
     o: usize,
     n: usize,
-    kinds: &[u8; 1024],
-    counts: &[u8; 1024],
-    firsts: &[u16; 1025],
-    nets: &[u16; 4096],
+    kinds: &Kinds,
+    counts: &Counts,
+    firsts: &Firsts,
+    nets: &Nets,
     sources: &[u16],
     table: &mut [u16],
 )
@@ -142,12 +149,12 @@ pub fn branches(
     c: usize,
     o: usize,
     n: usize,
-    kinds: &[u8; 1024],
-    counts: &[u8; 1024],
-    firsts: &[u16; 1025],
-    nets: &[u16; 4096],
-    order: &[u16; 1024],
-    table: &mut [u16; 4096],
+    kinds: &Kinds,
+    counts: &Counts,
+    firsts: &Firsts,
+    nets: &Nets,
+    order: &Order,
+    table: &mut [u16; PINS],
 )
     requires { ⌜ InLimits (tabled i c o (now kinds) (now counts) (now nets)) ⌝ }
     requires { ⌜ n ≡ allPins (tabled i c o (now kinds) (now counts) (now nets)) ⌝ }
@@ -155,7 +162,7 @@ pub fn branches(
     requires { ⌜ Ordered (tabled i c o (now kinds) (now counts) (now nets)) (now order) ⌝ }
     ensures { λ _. ⌜ BranchTable (tabled i c o (now (kinds .entry)) (now (counts .entry)) (now (nets .entry))) (now (table .exit)) ⌝ }
 {
-    let mut origins = [0u16; 1088];
+    let mut origins = [0u16; ALL_NETS];
     sources(i, c, o, kinds, counts, firsts, nets, order, &mut origins);
     pin_sources(i, c, o, n, kinds, counts, nets, &origins, table);
     leave_out(i, c, o, n, kinds, counts, firsts, nets, &origins, table);

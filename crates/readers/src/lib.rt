@@ -5,6 +5,7 @@ ghost use Prim.Native.Nat.{ℕ, _+_, _≤_, _<_};
 ghost use lib.ListN.{length, getD};
 ghost use Rattle.rows.specs.Rows.{Filled};
 ghost use Rattle.readers.specs.Readers.{headOf, keyOf, Heads, Wires, Owned, Reached, Counted, Put, Read, Built};
+use chip::PINS;
 use chip::wide;
 use chip::wide8;
 
@@ -146,7 +147,7 @@ pub fn build(
     requires { ⌜ (length (now readers) ≡ n) × ((x : ℕ) → getD (now readers) x 0 ≡ 0) ⌝ }
     ensures { λ _. ⌜ Built i c n (now (counts .entry)) (now (firsts .entry)) (now (branches .entry)) (now (nets .entry)) (now (order .entry)) (now (block .entry)) (now (heads .exit)) (now (readers .exit)) ⌝ }
 {
-    let mut owner = [0u16; 4096];
+    let mut owner = [0u16; PINS];
     owners(
         i,
         c,

@@ -1,36 +1,37 @@
-// Searches a play for a fault: refuses, or looks for it and answers what was found.
+// Searches a play for a fault: refuses, or looks for it and answers what was found. Of an open chip one fault may be searched for, or all
+// looked for at once and then searched for one by one.
 ghost use mathlib.Core.Path.{_≡_};
 ghost use mathlib.Core.Logic.{_≢_};
 ghost use mathlib.Core.List.{List};
 ghost use Prim.Native.Nat.{ℕ, _+_, _*_, _<_};
 ghost use Rattle.chip.specs.Inner.Tables.{tabled};
-ghost use Rattle.chip.specs.Netlist.{Netlist, InLimits, allPins};
-ghost use Rattle.chip.specs.Faults.{FaultIn};
-ghost use Rattle.fields.specs.Got.{got};
-ghost use Rattle.fields.specs.Format.{Parsed};
-ghost use Rattle.netlist.specs.Chip.{chipOf};
-ghost use Rattle.netlist.specs.Inner.Holds.{Holds};
-ghost use Rattle.structure.specs.Opens.{Opens};
-ghost use Rattle.walk.specs.Walk.{Ready};
-ghost use Rattle.bridge.specs.Chunk.{faultNumber};
+ghost use Rattle.chip.specs.Replies.{SearchOn, SearchReply};
+ghost use Rattle.opening.specs.Open.{netlistOf, IsOpen};
+ghost use Rattle.slots.specs.Slots.{ReachMasks};
+ghost use Rattle.faults.specs.Numbers.{faultNumber};
 ghost use Rattle.spots.specs.Spots.{Spots};
-ghost use Rattle.verdicts.specs.Verdicts.{Judged};
-ghost use Rattle.search.specs.Reply.{SearchReply};
-ghost use Rattle.search.specs.Inner.Answered.{Answered};
+ghost use Rattle.search.specs.Inner.Answered.{Answered, Looked, Surveyed};
+use chip::FAULTS;
 use chip::Fault;
-use chip::Site;
+use chip::PINS;
+use chip::PinWords;
+use chip::SITES;
+use chip::Searched;
 use chip::wide8;
 use netlist::Sizes;
-use netlist::Tables;
-use structure::Found;
+use opening::Chip;
+use opening::Opening;
 use structure::Shape;
 use walk::Walk;
 
-// What the search answers: the output, the pattern's number and the tries; the tries of a fault that no play shows; or a refusal's number and place.
-pub enum Searched {
-    Found(usize, usize, usize),
-    Untestable(usize),
-    Refused(u8, usize),
+// What was found of all faults of an open chip, with the places of the patterns' variables in a play.
+pub struct Findings {
+    pub wides: u64,
+    pub sites: [u64; SITES],
+    pub widths: [u16; 64],
+    pub best: [u8; FAULTS],
+    pub pat: [u32; FAULTS],
+    pub spots: [u16; 1024],
 }
 
 // The number of a pattern.
@@ -41,369 +42,237 @@ fn number(x: u32) -> usize
 }
 
 // Answers for fault f of a chip of class 2 or 3, which was looked for, with room for so many bytes of a play, or refuses: 16, 15.
+// The play of a pattern that is found is left to be set.
 fn answer_judged(
-    i: usize,
-    c: usize,
-    o: usize,
-    n: usize,
+    z: Sizes,
     s: Shape,
     f: usize,
-    kinds: &[u8; 1024],
-    counts: &[u8; 1024],
-    nets: &[u16; 4096],
-    reached: &[u64; 4160],
     wides: u64,
-    sites: &[u64],
+    sites: &[u64; SITES],
     widths: &[u16; 64],
-    best: &[u8],
-    pat: &[u32],
+    best: &[u8; FAULTS],
+    pat: &[u32; FAULTS],
     room: usize,
 ) -> Searched
-    requires { ⌜ ((firsts : List ℕ) × (order : List ℕ) × (branches : List ℕ) × (block : List ℕ) × (cone : List ℕ) × Ready (tabled i c o (now kinds) (now counts) (now nets)) n s firsts order branches block (now reached) cone) ⌝ }
-    requires { ⌜ (s .class ≢ 1) × Judged i c o n (s .blocks) f wides (now kinds) (now counts) (now nets) (now reached) (now sites) (now widths) (now best) (now pat) ⌝ }
-    ensures { λ r. ⌜ Answered (tabled i c o (now (kinds .entry)) (now (counts .entry)) (now (nets .entry))) s (faultNumber (i + c) f) (now (reached .entry)) room r ⌝ }
+    requires { ⌜ ((kinds : List ℕ) × (counts : List ℕ) × (nets : List ℕ) × (reached : List ℕ) × Looked z s f wides (now sites) (now widths) (now best) (now pat) kinds counts nets reached) ⌝ }
+    ensures { λ r. ⌜ ((kinds counts nets reached : List ℕ) → Looked z s f wides (now (sites .entry)) (now (widths .entry)) (now (best .entry)) (now (pat .entry)) kinds counts nets reached
+        → Answered (tabled (z .inputs) (z .cells) (z .outputs) kinds counts nets) s (faultNumber (z .inputs + z .cells) f) reached room r) ⌝ }
 {
     let outs = sites[f / 2];
-    let y = verdicts::first_wide(o, outs, wides);
-    if y < o {
+    let y = verdicts::first_wide(z.outputs, outs, wides);
+    if y < z.outputs {
         return Searched::Refused(16, y);
     }
-    let long = (s.depth + 1) * i;
+    let long = (s.depth + 1) * z.inputs;
     if room < long {
         return Searched::Refused(15, long);
     }
-    match verdicts::verdict(o, outs, wide8(best[f]), number(pat[f]), widths) {
+    match verdicts::verdict(z.outputs, outs, wide8(best[f]), number(pat[f]), widths) {
         Walk::Missed(k) => Searched::Untestable(k),
         Walk::Hit(z, m, k) => Searched::Found(z, m, k),
     }
 }
 
-// Looks for fault f alone, and answers or refuses: 16, 15.
-fn answer_alone(
-    i: usize,
-    c: usize,
-    o: usize,
-    n: usize,
-    s: Shape,
-    f: usize,
-    kinds: &[u8; 1024],
-    counts: &[u8; 1024],
-    firsts: &[u16; 1025],
-    nets: &[u16; 4096],
-    order: &[u16; 1024],
-    branches: &[u16; 4096],
-    block: &[u16; 4096],
-    reached: &[u64; 4160],
-    cone: &[u64; 4096],
-    room: usize,
-) -> Searched
-    requires { ⌜ Ready (tabled i c o (now kinds) (now counts) (now nets)) n s (now firsts) (now order) (now branches) (now block) (now reached) (now cone) ⌝ }
-    requires { ⌜ (s .class ≢ 1) × (f < 2 * (i + c + n)) ⌝ }
-    ensures { λ r. ⌜ Answered (tabled i c o (now (kinds .entry)) (now (counts .entry)) (now (nets .entry))) s (faultNumber (i + c) f) (now (reached .entry)) room r ⌝ }
+// Looks for fault f of an open chip of class 2 or 3 alone, and answers or refuses: 16, 15.
+fn answer_alone(opened: Chip, cone: &PinWords, f: usize, room: usize) -> Searched
+    requires { ⌜ IsOpen opened × ReachMasks (netlistOf opened) (now cone) ⌝ }
+    requires { ⌜ (opened .shape .class ≢ 1) × (f < 2 * (opened .sizes .inputs + opened .sizes .cells + opened .sizes .pins)) ⌝ }
+    ensures { λ r. ⌜ Answered (netlistOf opened) (opened .shape) (faultNumber (opened .sizes .inputs + opened .sizes .cells) f) (opened .reached) room r ⌝ }
 {
-    let mut sites = [0u64; 5184];
+    let z = opened.sizes;
+    let s = opened.shape;
+    let mut sites = [0u64; SITES];
     let mut widths = [0u16; 64];
-    let mut best = [64u8; 10368];
-    let mut pat = [0u32; 10368];
+    let mut best = [64u8; FAULTS];
+    let mut pat = [0u32; FAULTS];
     let wides = verdicts::judge(
         f,
         f + 1,
-        i,
-        c,
-        o,
-        n,
+        z.inputs,
+        z.cells,
+        z.outputs,
+        z.pins,
         s,
-        kinds,
-        counts,
-        firsts,
-        nets,
-        order,
-        branches,
-        block,
-        reached,
+        &opened.kinds,
+        &opened.counts,
+        &opened.firsts,
+        &opened.nets,
+        &opened.order,
+        &opened.branches,
+        &opened.block,
+        &opened.reached,
         cone,
         &mut sites,
         &mut widths,
         &mut best,
         &mut pat,
     );
-    answer_judged(
-        i,
-        c,
-        o,
-        n,
-        s,
-        f,
-        kinds,
-        counts,
-        nets,
-        reached,
-        wides,
-        &sites,
-        &widths,
-        &best,
-        &pat,
-        room,
-    )
+    answer_judged(z, s, f, wides, &sites, &widths, &best, &pat, room)
 }
 
-// The number of a fault of a chip with so many nets: those of the nets come first, and stuck at 0 before 1.
-fn fault_number(nets: usize, fault: Fault) -> usize
-    requires { ⌜ ((N : Netlist) × (nets ≡ N .inputs + N .cells) × InLimits N × FaultIn N fault) ⌝ }
-    ensures { λ r. ⌜ ((N : Netlist) → nets ≡ N .inputs + N .cells → FaultIn N fault → (faultNumber nets r ≡ fault) × (r < 2 * (nets + allPins N))) ⌝ }
+// Searches a play for a fault of an open chip, as the d + 1 clocks that begin the buffer.
+// Refuses 12 (no such fault), 11 (class 1), 16 (more than 16 blocks behind a reached output), 15 (too short a buffer).
+pub fn search_on(opened: Chip, fault: Fault, play: &mut [u8]) -> Searched
+    requires { ⌜ IsOpen opened ⌝ }
+    ensures { λ r. ⌜ SearchOn (netlistOf opened) fault (now (play .entry)) (r, now (play .exit)) ⌝ }
 {
-    let stuck = wide8(fault.stuck);
-    let site = fault.site;
-    match site {
-        Site::Net(x) => 2 * x + stuck,
-        Site::Pin(p) => 2 * (nets + p) + stuck,
-    }
-}
-
-// Answers for a fault on a chip that is prepared, with room for so many bytes of a play, or refuses: 12, 11, 16, 15. The play of a pattern that is found is left to be set.
-fn answer(
-    i: usize,
-    c: usize,
-    o: usize,
-    n: usize,
-    s: Shape,
-    fault: Fault,
-    kinds: &[u8; 1024],
-    counts: &[u8; 1024],
-    firsts: &[u16; 1025],
-    nets: &[u16; 4096],
-    order: &[u16; 1024],
-    branches: &[u16; 4096],
-    block: &[u16; 4096],
-    reached: &[u64; 4160],
-    cone: &[u64; 4096],
-    room: usize,
-) -> Searched
-    requires { ⌜ Ready (tabled i c o (now kinds) (now counts) (now nets)) n s (now firsts) (now order) (now branches) (now block) (now reached) (now cone) ⌝ }
-    ensures { λ r. ⌜ Answered (tabled i c o (now (kinds .entry)) (now (counts .entry)) (now (nets .entry))) s fault (now (reached .entry)) room r ⌝ }
-{
-    if !faults::known(i, c, n, fault) {
+    let z = opened.sizes;
+    let s = opened.shape;
+    if !faults::known(z.inputs, z.cells, z.pins, fault) {
         return Searched::Refused(12, 0);
     }
     if s.class == 1 {
         return Searched::Refused(11, s.place);
     }
-    let f = fault_number(i + c, fault);
-    answer_alone(
-        i,
-        c,
-        o,
-        n,
-        s,
-        f,
-        kinds,
-        counts,
-        firsts,
-        nets,
-        order,
-        branches,
-        block,
-        reached,
-        cone,
-        room,
-    )
-}
-
-// Searches a play for a fault on a chip that is prepared, or refuses: 12, 11, 16, 15.
-fn search_chip(
-    i: usize,
-    c: usize,
-    o: usize,
-    n: usize,
-    s: Shape,
-    fault: Fault,
-    kinds: &[u8; 1024],
-    counts: &[u8; 1024],
-    firsts: &[u16; 1025],
-    nets: &[u16; 4096],
-    order: &[u16; 1024],
-    branches: &[u16; 4096],
-    block: &[u16; 4096],
-    reached: &[u64; 4160],
-    cone: &[u64; 4096],
-    play: &mut [u8],
-) -> Searched
-    requires { ⌜ Ready (tabled i c o (now kinds) (now counts) (now nets)) n s (now firsts) (now order) (now branches) (now block) (now reached) (now cone) ⌝ }
-    ensures { λ r. ⌜ ((file : List ℕ) (x : Parsed) → Opens file (got x) → tabled i c o (now (kinds .entry)) (now (counts .entry)) (now (nets .entry)) ≡ chipOf x
-        → SearchReply file fault (now (play .entry)) r (now (play .exit))) ⌝ }
-{
-    match answer(
-        i,
-        c,
-        o,
-        n,
-        s,
-        fault,
-        kinds,
-        counts,
-        firsts,
-        nets,
-        order,
-        branches,
-        block,
-        reached,
-        cone,
-        play.len(),
-    ) {
-        Searched::Refused(k, p) => Searched::Refused(k, p),
-        Searched::Untestable(k) => Searched::Untestable(k),
-        Searched::Found(z, m, k) => {
-            walk::play_pattern(
-                i,
-                c,
-                o,
-                n,
-                z,
-                m,
-                s,
-                kinds,
-                counts,
-                firsts,
-                nets,
-                order,
-                branches,
-                block,
-                reached,
-                play,
-            );
-            Searched::Found(z, m, k)
-        }
-    }
-}
-
-// Searches a play for fault f of a chip of class 2 or 3, which was looked for, by the spots of the chip, or refuses: 16, 15.
-pub fn search_listed(
-    i: usize,
-    c: usize,
-    o: usize,
-    n: usize,
-    s: Shape,
-    f: usize,
-    kinds: &[u8; 1024],
-    counts: &[u8; 1024],
-    nets: &[u16; 4096],
-    reached: &[u64; 4160],
-    wides: u64,
-    sites: &[u64],
-    widths: &[u16; 64],
-    best: &[u8],
-    pat: &[u32],
-    spots: &[u16; 1024],
-    play: &mut [u8],
-) -> Searched
-    requires { ⌜ ((firsts : List ℕ) × (order : List ℕ) × (branches : List ℕ) × (block : List ℕ) × (cone : List ℕ) × Ready (tabled i c o (now kinds) (now counts) (now nets)) n s firsts order branches block (now reached) cone) ⌝ }
-    requires { ⌜ (s .class ≢ 1) × Judged i c o n (s .blocks) f wides (now kinds) (now counts) (now nets) (now reached) (now sites) (now widths) (now best) (now pat) ⌝ }
-    requires { ⌜ Spots (tabled i c o (now kinds) (now counts) (now nets)) (s .depth) (now reached) (now spots) ⌝ }
-    ensures { λ r. ⌜ ((file : List ℕ) (x : Parsed) → Opens file (got x) → tabled i c o (now (kinds .entry)) (now (counts .entry)) (now (nets .entry)) ≡ chipOf x
-        → SearchReply file (faultNumber (i + c) f) (now (play .entry)) r (now (play .exit))) ⌝ }
-{
-    match answer_judged(
-        i,
-        c,
-        o,
-        n,
-        s,
-        f,
-        kinds,
-        counts,
-        nets,
-        reached,
-        wides,
-        sites,
-        widths,
-        best,
-        pat,
-        play.len(),
-    ) {
-        Searched::Refused(k, p) => Searched::Refused(k, p),
-        Searched::Untestable(k) => Searched::Untestable(k),
-        Searched::Found(z, m, k) => {
-            spots::play_spots(i, s.depth, z, m, spots, play);
-            Searched::Found(z, m, k)
-        }
-    }
-}
-
-// Searches from the tables of a file that was taken.
-fn search_tables(t: Tables, z: Sizes, fault: Fault, play: &mut [u8]) -> Searched
-    requires { ⌜ ((file : List ℕ) × Holds file t z) ⌝ }
-    ensures { λ r. ⌜ ((file : List ℕ) → Holds file t z → SearchReply file fault (now (play .entry)) r (now (play .exit))) ⌝ }
-{
-    let kinds = t.kinds;
-    let counts = t.counts;
-    let nets = t.nets;
-    let mut firsts = [0u16; 1025];
-    let mut order = [0u16; 1024];
-    let mut branches = [0u16; 4096];
-    let mut block = [0u16; 4096];
-    let mut reached = [0u64; 4160];
-    let s = match structure::prepare(
-        z.inputs,
-        z.cells,
-        z.outputs,
-        z.pins,
-        &kinds,
-        &counts,
-        &nets,
-        &mut firsts,
-        &mut order,
-        &mut branches,
-        &mut block,
-        &mut reached,
-    ) {
-        Found::Looped(m) => {
-            return Searched::Refused(9, m);
-        }
-        Found::TooDeep(y) => {
-            return Searched::Refused(10, y);
-        }
-        Found::Chip(s) => s,
-    };
-    let mut cone = [0u64; 4096];
+    let f = faults::fault_number(z.inputs + z.cells, fault);
+    let mut cone = [0u64; PINS];
     walk::reach_masks(
         z.inputs,
         z.cells,
         z.outputs,
-        &kinds,
-        &counts,
-        &firsts,
-        &nets,
-        &order,
+        &opened.kinds,
+        &opened.counts,
+        &opened.firsts,
+        &opened.nets,
+        &opened.order,
         &mut cone,
     );
-    search_chip(
+    match answer_alone(opened, &cone, f, play.len()) {
+        Searched::Refused(k, p) => Searched::Refused(k, p),
+        Searched::Untestable(k) => Searched::Untestable(k),
+        Searched::Found(y, m, k) => {
+            walk::play_pattern(
+                z.inputs,
+                z.cells,
+                z.outputs,
+                z.pins,
+                y,
+                m,
+                s,
+                &opened.kinds,
+                &opened.counts,
+                &opened.firsts,
+                &opened.nets,
+                &opened.order,
+                &opened.branches,
+                &opened.block,
+                &opened.reached,
+                play,
+            );
+            Searched::Found(y, m, k)
+        }
+    }
+}
+
+// Looks for all faults of an open chip of class 2 or 3 at once.
+pub fn survey(opened: Chip) -> Findings
+    requires { ⌜ IsOpen opened × (opened .shape .class ≢ 1) ⌝ }
+    ensures { λ r. ⌜ Surveyed opened r ⌝ }
+{
+    let z = opened.sizes;
+    let s = opened.shape;
+    let mut cone = [0u64; PINS];
+    walk::reach_masks(
+        z.inputs,
+        z.cells,
+        z.outputs,
+        &opened.kinds,
+        &opened.counts,
+        &opened.firsts,
+        &opened.nets,
+        &opened.order,
+        &mut cone,
+    );
+    let mut spots = [0u16; 1024];
+    spots::find_spots(
         z.inputs,
         z.cells,
         z.outputs,
         z.pins,
         s,
-        fault,
-        &kinds,
-        &counts,
-        &firsts,
-        &nets,
-        &order,
-        &branches,
-        &block,
-        &reached,
+        &opened.kinds,
+        &opened.counts,
+        &opened.firsts,
+        &opened.nets,
+        &opened.order,
+        &opened.branches,
+        &opened.block,
+        &opened.reached,
+        &mut spots,
+    );
+    let mut sites = [0u64; SITES];
+    let mut widths = [0u16; 64];
+    let mut best = [64u8; FAULTS];
+    let mut pat = [0u32; FAULTS];
+    let wides = verdicts::judge(
+        0,
+        2 * (z.inputs + z.cells + z.pins),
+        z.inputs,
+        z.cells,
+        z.outputs,
+        z.pins,
+        s,
+        &opened.kinds,
+        &opened.counts,
+        &opened.firsts,
+        &opened.nets,
+        &opened.order,
+        &opened.branches,
+        &opened.block,
+        &opened.reached,
         &cone,
-        play,
-    )
+        &mut sites,
+        &mut widths,
+        &mut best,
+        &mut pat,
+    );
+    Findings {
+        wides: wides,
+        sites: sites,
+        widths: widths,
+        best: best,
+        pat: pat,
+        spots: spots,
+    }
 }
 
-// Searches a play for a fault of a netlist file, as the d + 1 clocks that begin the buffer.
-pub fn search(file: &[u8], fault: Fault, play: &mut [u8]) -> Searched
-    ensures { λ r. ⌜ SearchReply (now (file .entry)) fault (now (play .entry)) r (now (play .exit)) ⌝ }
+// Searches a play for fault f of a chip that was surveyed, as the d + 1 clocks that begin the buffer, or refuses: 16, 15.
+pub fn search_listed<'a>(
+    z: Sizes,
+    s: Shape,
+    f: usize,
+    wides: u64,
+    sites: &'a [u64; SITES],
+    widths: &'a [u16; 64],
+    best: &'a [u8; FAULTS],
+    pat: &'a [u32; FAULTS],
+    spots: &'a [u16; 1024],
+    play: &mut [u8],
+) -> Searched
+    requires { ⌜ ((kinds : List ℕ) × (counts : List ℕ) × (nets : List ℕ) × (reached : List ℕ) × Looked z s f wides (now sites) (now widths) (now best) (now pat) kinds counts nets reached
+        × Spots (tabled (z .inputs) (z .cells) (z .outputs) kinds counts nets) (s .depth) reached (now spots)) ⌝ }
+    ensures { λ r. ⌜ ((kinds counts nets reached : List ℕ) → Looked z s f wides (now (sites .entry)) (now (widths .entry)) (now (best .entry)) (now (pat .entry)) kinds counts nets reached
+        → Spots (tabled (z .inputs) (z .cells) (z .outputs) kinds counts nets) (s .depth) reached (now (spots .entry))
+        → SearchOn (tabled (z .inputs) (z .cells) (z .outputs) kinds counts nets) (faultNumber (z .inputs + z .cells) f) (now (play .entry)) (r, now (play .exit))) ⌝ }
 {
-    let t = netlist::read(file);
-    let reading = t.reading;
-    match reading {
-        netlist::Reading::Refused(k, p) => Searched::Refused(k, p),
-        netlist::Reading::Taken(z) => search_tables(t, z, fault, play),
+    match answer_judged(z, s, f, wides, sites, widths, best, pat, play.len()) {
+        Searched::Refused(k, p) => Searched::Refused(k, p),
+        Searched::Untestable(k) => Searched::Untestable(k),
+        Searched::Found(y, m, k) => {
+            spots::play_spots(z.inputs, s.depth, y, m, spots, play);
+            Searched::Found(y, m, k)
+        }
+    }
+}
+
+// Searches a play for a fault of a netlist file. Refuses 1 to 10, and then as on an open chip.
+pub fn search(file: &[u8], fault: Fault, play: &mut [u8]) -> Searched
+    ensures { λ r. ⌜ SearchReply (now (file .entry)) fault (now (play .entry)) (r, now (play .exit)) ⌝ }
+{
+    let opened = opening::open(file);
+    let opening = opened.opening;
+    match opening {
+        Opening::Refused(k, p) => Searched::Refused(k, p),
+        Opening::Open => search_on(opened, fault, play),
     }
 }

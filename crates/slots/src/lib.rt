@@ -4,10 +4,16 @@ ghost use mathlib.Core.Path.{_≡_};
 ghost use Prim.Native.Nat.{ℕ, _+_, _≤_, _<_};
 ghost use lib.ListN.{length, getD};
 ghost use Rattle.slots.specs.Slots.{relOf, Variables, slotOf, PinSlots, faultSlot, FaultSlots};
+use chip::BLOCKS;
+use chip::Block;
+use chip::Branches;
+use chip::Nets;
+use chip::PINS;
+use chip::Reached;
 use chip::wide;
 
 // Gives each of the first b blocks that reaches output z the next variable's slot, and the others the zeros. Answers how many variables there are.
-pub fn variables(z: usize, b: usize, reached: &[u64; 4160], table: &mut [u16]) -> usize
+pub fn variables(z: usize, b: usize, reached: &Reached, table: &mut [u16]) -> usize
     requires { ⌜ (z < 64) × (b ≤ 4160) × (length (now table) ≡ 4160) ⌝ }
     ensures { λ r. ⌜ Variables b (relOf (now (reached .entry)) z) (now (table .exit)) r ⌝ }
 {
@@ -26,7 +32,7 @@ pub fn variables(z: usize, b: usize, reached: &[u64; 4160], table: &mut [u16]) -
 }
 
 // The slot of a pin that is a branch, names a net and is in a block. A branch has its block's slot; another pin that names an input goes into a pad buffer, and what it sees does not matter.
-fn slot(i: usize, slots: &[u16; 4160], branch: u16, net: u16, block: u16) -> u16
+fn slot(i: usize, slots: &[u16; BLOCKS], branch: u16, net: u16, block: u16) -> u16
     requires { ⌜ (i ≤ 64) × (net ≤ i + 1024) × (branch < i → block < 4160) ⌝ }
     ensures { λ r. ⌜ r ≡ slotOf i (now (slots .entry)) branch net block ⌝ }
 {
@@ -43,10 +49,10 @@ fn slot(i: usize, slots: &[u16; 4160], branch: u16, net: u16, block: u16) -> u16
 pub fn pin_slots(
     i: usize,
     n: usize,
-    slots: &[u16; 4160],
-    branches: &[u16; 4096],
-    nets: &[u16; 4096],
-    block: &[u16; 4096],
+    slots: &[u16; BLOCKS],
+    branches: &Branches,
+    nets: &Nets,
+    block: &Block,
     sources: &mut [u16],
 )
     requires { ⌜ (i ≤ 64) × (n ≤ 4096) × (length (now sources) ≡ 4096) ⌝ }
@@ -69,7 +75,7 @@ fn fault_slot(byte: u8, good: u16) -> u16
 }
 
 // The slots of the n pins in the faulty circuit.
-pub fn fault_slots(n: usize, decided: &[u8; 4096], good: &[u16; 4096], faulty: &mut [u16])
+pub fn fault_slots(n: usize, decided: &[u8; PINS], good: &Nets, faulty: &mut [u16])
     requires { ⌜ (n ≤ 4096) × (length (now faulty) ≡ 4096) ⌝ }
     ensures { λ _. ⌜ FaultSlots n (now (decided .entry)) (now (good .entry)) (now (faulty .exit)) ⌝ }
 {

@@ -10,9 +10,21 @@ ghost use Rattle.chip.specs.Inner.Tables.{tabled};
 ghost use Rattle.chip.specs.Class.{Lowest, blocks};
 ghost use Rattle.chip.specs.Search.{digit};
 ghost use Rattle.sweeps.specs.Swept.{Even};
-ghost use Rattle.walk.specs.Walk.{Ready, Played};
+ghost use Rattle.walk.specs.Walk.{Ready};
+ghost use Rattle.walk.specs.Walk.{Played};
 ghost use Rattle.spots.specs.Marks.{Changed, BlockMark, RowMark, ListMark, SpotMark, PinMark, LevelMark, DepthMark, OneMark};
 ghost use Rattle.spots.specs.Spots.{Spots, Playable};
+use chip::ALL_NETS;
+use chip::Block;
+use chip::Branches;
+use chip::Counts;
+use chip::Firsts;
+use chip::Kinds;
+use chip::Nets;
+use chip::Order;
+use chip::PINS;
+use chip::PinWords;
+use chip::Reached;
 use chip::wide;
 use structure::Shape;
 
@@ -27,7 +39,7 @@ fn list_block(z: usize, w: usize, s: usize, lists: &mut [u16])
 }
 
 // Lists the blocks that reach output z.
-fn list_row(b: usize, z: usize, reached: &[u64; 4160], lists: &mut [u16])
+fn list_row(b: usize, z: usize, reached: &Reached, lists: &mut [u16])
     requires { ⌜ (b ≤ 4160) × (z < 64) × (length (now lists) ≡ 1024) ⌝ }
     ensures { λ _. ⌜ Changed (RowMark b z (now (reached .entry))) (now (lists .entry)) (now (lists .exit)) ⌝ }
 {
@@ -43,7 +55,7 @@ fn list_row(b: usize, z: usize, reached: &[u64; 4160], lists: &mut [u16])
 }
 
 // Lists the blocks that reach each output.
-fn list_blocks(o: usize, b: usize, reached: &[u64; 4160], lists: &mut [u16])
+fn list_blocks(o: usize, b: usize, reached: &Reached, lists: &mut [u16])
     requires { ⌜ (o ≤ 64) × (b ≤ 4160) × (length (now lists) ≡ 1024) ⌝ }
     ensures { λ _. ⌜ Changed (ListMark b o (now (reached .entry))) (now (lists .entry)) (now (lists .exit)) ⌝ }
 {
@@ -91,9 +103,9 @@ fn put_level(
     o: usize,
     n: usize,
     from: usize,
-    branches: &[u16; 4096],
-    block: &[u16; 4096],
-    words: &[u64; 4096],
+    branches: &Branches,
+    block: &Block,
+    words: &PinWords,
     lists: &[u16; 1024],
     spots: &mut [u16],
 )
@@ -117,22 +129,22 @@ fn put_depths(
     o: usize,
     n: usize,
     d: usize,
-    kinds: &[u8; 1024],
-    counts: &[u8; 1024],
-    firsts: &[u16; 1025],
-    nets: &[u16; 4096],
-    order: &[u16; 1024],
-    branches: &[u16; 4096],
-    block: &[u16; 4096],
+    kinds: &Kinds,
+    counts: &Counts,
+    firsts: &Firsts,
+    nets: &Nets,
+    order: &Order,
+    branches: &Branches,
+    block: &Block,
     lists: &[u16; 1024],
     spots: &mut [u16],
 )
     requires { ⌜ ((b : ℕ) × Even (tabled i c o (now kinds) (now counts) (now nets)) n d b (now firsts) (now order) (now branches) (now block)) × (length (now spots) ≡ 1024) ⌝ }
     ensures { λ _. ⌜ Changed (DepthMark (tabled i c o (now (kinds .entry)) (now (counts .entry)) (now (nets .entry))) d (suc d) (now (block .entry)) (now (lists .entry))) (now (spots .entry)) (now (spots .exit)) ⌝ }
 {
-    let mut before = [0u64; 1088];
-    let mut at_net = [0u64; 1088];
-    let mut words = [0u64; 4096];
+    let mut before = [0u64; ALL_NETS];
+    let mut at_net = [0u64; ALL_NETS];
+    let mut words = [0u64; PINS];
     let mut e = 0;
     while e <= d {
         levels::level(
@@ -157,20 +169,20 @@ fn put_depths(
 }
 
 // Works out the places of a chip of class 2 or 3, in one pass over the depths.
-pub fn find_spots(
+pub fn find_spots<'a>(
     i: usize,
     c: usize,
     o: usize,
     n: usize,
     s: Shape,
-    kinds: &[u8; 1024],
-    counts: &[u8; 1024],
-    firsts: &[u16; 1025],
-    nets: &[u16; 4096],
-    order: &[u16; 1024],
-    branches: &[u16; 4096],
-    block: &[u16; 4096],
-    reached: &[u64; 4160],
+    kinds: &'a Kinds,
+    counts: &'a Counts,
+    firsts: &'a Firsts,
+    nets: &'a Nets,
+    order: &'a Order,
+    branches: &'a Branches,
+    block: &'a Block,
+    reached: &'a Reached,
     spots: &mut [u16; 1024],
 )
     requires { ⌜ ((cone : List ℕ) × Ready (tabled i c o (now kinds) (now counts) (now nets)) n s (now firsts) (now order) (now branches) (now block) (now reached) cone) ⌝ }

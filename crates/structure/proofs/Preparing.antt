@@ -17,7 +17,8 @@ use Rattle.chip.proofs.Plain.{within-branches}
 use Rattle.blocks.specs.Labels.{Numbered}
 use Rattle.blocks.proofs.Numbers.{counted-few}
 use Rattle.balance.specs.Balance.{FewLabels, LowestUneven}
-use Rattle.structure.specs.Inner.Shape.{OneInput, LowestDeep, DepthFound, DepthIs, Evened, Classified, Shaped}
+use Rattle.chip.specs.Refusals.{When10}
+use Rattle.structure.specs.Inner.Shape.{OneInput, DepthFound, DepthIs, Evened, Classified, Shaped}
 use Rattle.structure.specs.declared.Measured.{Measured}
 use Rattle.structure.specs.declared.Depths.{Depths}
 use Rattle.structure.specs.declared.Depths.the-variants.{Is, Over}
@@ -31,7 +32,7 @@ settled-loop N order r j s e = subst (Settled N order) e s
 pub settled-done : (N : Netlist) (order : List ℕ) (r : Ordering) → Settled N order r → r ≡ Done → Ordered N order
 settled-done N order r s e = subst (Settled N order) e s
 
-pub depth-over : (N : Netlist) (branches : List ℕ) (low : ℕ → ℕ) (r : Depths) (z : ℕ) → DepthIs N branches low r → r ≡ Over z → LowestDeep N z
+pub depth-over : (N : Netlist) (branches : List ℕ) (low : ℕ → ℕ) (r : Depths) (z : ℕ) → DepthIs N branches low r → r ≡ Over z → When10 N z
 depth-over N branches low r z s e = subst (DepthIs N branches low) e s
 
 pub depth-of : (N : Netlist) (branches : List ℕ) (low : ℕ → ℕ) (r : Depths) (m : Measured) → DepthIs N branches low r → r ≡ Is m → DepthFound N low (m .depth) × LowestUneven N branches (m .input)

@@ -10,7 +10,19 @@ ghost use Rattle.levels.specs.Levels.{MasksBefore, LevelMasks};
 ghost use Rattle.blocks.specs.Labels.{labelOf, Labels, LevelJoined};
 ghost use Rattle.balance.specs.Balance.{FewLabels, SeenMasks, LowestUneven};
 ghost use Rattle.structure.specs.Inner.Shape.{OneInput, Deeper, DepthIs, FlatKinds, Seen, Evened, Classified, FoundIs};
-ghost use Rattle.structure.specs.Reply.{ClassReply};
+use chip::ALL_NETS;
+use chip::Block;
+use chip::Branches;
+use chip::CELLS;
+use chip::Counts;
+use chip::Firsts;
+use chip::Kinds;
+use chip::NetWords;
+use chip::Nets;
+use chip::Order;
+use chip::PINS;
+use chip::PinWords;
+use chip::Reached;
 use order::Ordering;
 
 // The depth, and the lowest input that reaches an output with two depths, or the number of inputs if none does.
@@ -41,12 +53,6 @@ pub enum Found {
     Chip(Shape),
 }
 
-// What naming the class answers: class, depth and number of blocks, or a refusal's number and place.
-pub enum Classed {
-    Class(u8, usize, usize),
-    Refused(u8, usize),
-}
-
 // Joins the branches that reach one output at depth e; there are none where no input's net reaches one.
 fn join_inputs(
     i: usize,
@@ -54,14 +60,14 @@ fn join_inputs(
     o: usize,
     n: usize,
     e: usize,
-    kinds: &[u8; 1024],
-    counts: &[u8; 1024],
-    nets: &[u16; 4096],
-    branches: &[u16; 4096],
-    order: &[u16; 1024],
-    reached: &[u64; 1088],
-    pins: &[u64; 4096],
-    low: &mut [u16; 4096],
+    kinds: &Kinds,
+    counts: &Counts,
+    nets: &Nets,
+    branches: &Branches,
+    order: &Order,
+    reached: &NetWords,
+    pins: &PinWords,
+    low: &mut Block,
 )
     requires { ⌜ InLimits (tabled i c o (now kinds) (now counts) (now nets)) ⌝ }
     requires { ⌜ n ≡ allPins (tabled i c o (now kinds) (now counts) (now nets)) ⌝ }
@@ -86,16 +92,16 @@ fn deeper(
     o: usize,
     n: usize,
     e: usize,
-    kinds: &[u8; 1024],
-    counts: &[u8; 1024],
-    firsts: &[u16; 1025],
-    nets: &[u16; 4096],
-    branches: &[u16; 4096],
-    order: &[u16; 1024],
-    before: &[u64; 1088],
-    after: &mut [u64; 1088],
-    pins: &mut [u64; 4096],
-    low: &mut [u16; 4096],
+    kinds: &Kinds,
+    counts: &Counts,
+    firsts: &Firsts,
+    nets: &Nets,
+    branches: &Branches,
+    order: &Order,
+    before: &NetWords,
+    after: &mut NetWords,
+    pins: &mut PinWords,
+    low: &mut Block,
 ) -> u64
     requires { ⌜ InLimits (tabled i c o (now kinds) (now counts) (now nets)) ⌝ }
     requires { ⌜ n ≡ allPins (tabled i c o (now kinds) (now counts) (now nets)) ⌝ }
@@ -146,13 +152,13 @@ fn join_blocks(
     c: usize,
     o: usize,
     n: usize,
-    kinds: &[u8; 1024],
-    counts: &[u8; 1024],
-    firsts: &[u16; 1025],
-    nets: &[u16; 4096],
-    branches: &[u16; 4096],
-    order: &[u16; 1024],
-    low: &mut [u16; 4096],
+    kinds: &Kinds,
+    counts: &Counts,
+    firsts: &Firsts,
+    nets: &Nets,
+    branches: &Branches,
+    order: &Order,
+    low: &mut Block,
 ) -> Depths
     requires { ⌜ InLimits (tabled i c o (now kinds) (now counts) (now nets)) ⌝ }
     requires { ⌜ n ≡ allPins (tabled i c o (now kinds) (now counts) (now nets)) ⌝ }
@@ -162,9 +168,9 @@ fn join_blocks(
     ensures { λ r. ⌜ DepthIs (tabled i c o (now (kinds .entry)) (now (counts .entry)) (now (nets .entry)))
         (now (branches .entry)) (labelOf (tabled i c o (now (kinds .entry)) (now (counts .entry)) (now (nets .entry))) (now (low .exit))) r ⌝ }
 {
-    let mut before = [0u64; 1088];
-    let mut after = [0u64; 1088];
-    let mut pins = [0u64; 4096];
+    let mut before = [0u64; ALL_NETS];
+    let mut after = [0u64; ALL_NETS];
+    let mut pins = [0u64; PINS];
     let mut seen = [0u64; 64];
     let mut lowest = i;
     blocks::single_labels(low);
@@ -231,15 +237,15 @@ fn uneven_at(
     o: usize,
     n: usize,
     e: usize,
-    kinds: &[u8; 1024],
-    counts: &[u8; 1024],
-    nets: &[u16; 4096],
-    branches: &[u16; 4096],
-    order: &[u16; 1024],
-    reached: &[u64; 1088],
-    pins: &[u64; 4096],
-    labels: &[u16; 4096],
-    seen: &mut [u64; 4160],
+    kinds: &Kinds,
+    counts: &Counts,
+    nets: &Nets,
+    branches: &Branches,
+    order: &Order,
+    reached: &NetWords,
+    pins: &PinWords,
+    labels: &Block,
+    seen: &mut Reached,
     best: usize,
 ) -> usize
     requires { ⌜ InLimits (tabled i c o (now kinds) (now counts) (now nets)) ⌝ }
@@ -295,14 +301,14 @@ fn lowest_uneven(
     o: usize,
     n: usize,
     d: usize,
-    kinds: &[u8; 1024],
-    counts: &[u8; 1024],
-    firsts: &[u16; 1025],
-    nets: &[u16; 4096],
-    branches: &[u16; 4096],
-    order: &[u16; 1024],
-    labels: &[u16; 4096],
-    seen: &mut [u64; 4160],
+    kinds: &Kinds,
+    counts: &Counts,
+    firsts: &Firsts,
+    nets: &Nets,
+    branches: &Branches,
+    order: &Order,
+    labels: &Block,
+    seen: &mut Reached,
 ) -> usize
     requires { ⌜ InLimits (tabled i c o (now kinds) (now counts) (now nets)) ⌝ }
     requires { ⌜ n ≡ allPins (tabled i c o (now kinds) (now counts) (now nets)) ⌝ }
@@ -315,9 +321,9 @@ fn lowest_uneven(
     requires { ⌜ BranchTable (tabled i c o (now kinds) (now counts) (now nets)) (now branches) ⌝ }
     ensures { λ r. ⌜ Evened (tabled i c o (now (kinds .entry)) (now (counts .entry)) (now (nets .entry))) (now (labels .entry)) d (now (seen .exit)) r ⌝ }
 {
-    let mut before = [0u64; 1088];
-    let mut after = [0u64; 1088];
-    let mut pins = [0u64; 4096];
+    let mut before = [0u64; ALL_NETS];
+    let mut after = [0u64; ALL_NETS];
+    let mut pins = [0u64; PINS];
     let mut lowest = i;
     let mut e = 0;
     while e <= d {
@@ -359,7 +365,7 @@ fn lowest_uneven(
 }
 
 // The kinds without flip-flops.
-fn flat_kinds(kinds: &[u8; 1024], gates: &mut [u8; 1024])
+fn flat_kinds(kinds: &Kinds, gates: &mut Kinds)
     ensures { λ _. ⌜ FlatKinds (now (kinds .entry)) (now (gates .exit)) ⌝ }
 {
     // The array as a slice, of which the proof is told the length.
@@ -378,14 +384,14 @@ fn see_all(
     o: usize,
     n: usize,
     d: usize,
-    kinds: &[u8; 1024],
-    counts: &[u8; 1024],
-    firsts: &[u16; 1025],
-    nets: &[u16; 4096],
-    branches: &[u16; 4096],
-    order: &[u16; 1024],
-    labels: &[u16; 4096],
-    seen: &mut [u64; 4160],
+    kinds: &Kinds,
+    counts: &Counts,
+    firsts: &Firsts,
+    nets: &Nets,
+    branches: &Branches,
+    order: &Order,
+    labels: &Block,
+    seen: &mut Reached,
 )
     requires { ⌜ InLimits (tabled i c o (now kinds) (now counts) (now nets)) ⌝ }
     requires { ⌜ n ≡ allPins (tabled i c o (now kinds) (now counts) (now nets)) ⌝ }
@@ -397,10 +403,10 @@ fn see_all(
     requires { ⌜ BranchTable (tabled i c o (now kinds) (now counts) (now nets)) (now branches) ⌝ }
     ensures { λ _. ⌜ SeenMasks (tabled i c o (now (kinds .entry)) (now (counts .entry)) (now (nets .entry))) (now (labels .entry)) (suc d) (now (seen .exit)) ⌝ }
 {
-    let mut gates = [0u8; 1024];
-    let before = [0u64; 1088];
-    let mut after = [0u64; 1088];
-    let mut pins = [0u64; 4096];
+    let mut gates = [0u8; CELLS];
+    let before = [0u64; ALL_NETS];
+    let mut after = [0u64; ALL_NETS];
+    let mut pins = [0u64; PINS];
     flat_kinds(kinds, &mut gates);
     levels::level(
         i,
@@ -442,14 +448,14 @@ fn uneven_block(
     n: usize,
     d: usize,
     x: usize,
-    kinds: &[u8; 1024],
-    counts: &[u8; 1024],
-    firsts: &[u16; 1025],
-    nets: &[u16; 4096],
-    branches: &[u16; 4096],
-    order: &[u16; 1024],
-    block: &[u16; 4096],
-    seen: &mut [u64; 4160],
+    kinds: &Kinds,
+    counts: &Counts,
+    firsts: &Firsts,
+    nets: &Nets,
+    branches: &Branches,
+    order: &Order,
+    block: &Block,
+    seen: &mut Reached,
 ) -> usize
     requires { ⌜ InLimits (tabled i c o (now kinds) (now counts) (now nets)) ⌝ }
     requires { ⌜ n ≡ allPins (tabled i c o (now kinds) (now counts) (now nets)) ⌝ }
@@ -517,21 +523,21 @@ pub fn prepare(
     c: usize,
     o: usize,
     n: usize,
-    kinds: &[u8; 1024],
-    counts: &[u8; 1024],
-    nets: &[u16; 4096],
-    firsts: &mut [u16; 1025],
-    order: &mut [u16; 1024],
-    branches: &mut [u16; 4096],
-    block: &mut [u16; 4096],
-    reached: &mut [u64; 4160],
+    kinds: &Kinds,
+    counts: &Counts,
+    nets: &Nets,
+    firsts: &mut Firsts,
+    order: &mut Order,
+    branches: &mut Branches,
+    block: &mut Block,
+    reached: &mut Reached,
 ) -> Found
     requires { ⌜ InLimits (tabled i c o (now kinds) (now counts) (now nets)) ⌝ }
     requires { ⌜ n ≡ allPins (tabled i c o (now kinds) (now counts) (now nets)) ⌝ }
     requires { ⌜ ((l : ℕ) → l < 4160 → getD (now reached) l 0 ≡ 0) ⌝ }
     ensures { λ r. ⌜ FoundIs (tabled i c o (now (kinds .entry)) (now (counts .entry)) (now (nets .entry))) (now (firsts .exit)) (now (order .exit)) (now (branches .exit)) (now (block .exit)) (now (reached .exit)) r ⌝ }
 {
-    let mut low = [0u16; 4096];
+    let mut low = [0u16; PINS];
     order::first_pins(counts, c, firsts);
     match order::order_cells(i, c, firsts, nets, order) {
         Ordering::Loop(j) => {
@@ -583,44 +589,4 @@ pub fn prepare(
         blocks: b,
         place: y,
     })
-}
-
-// Names the class of a netlist file, with its depth and the number of its blocks, or refuses it: 1 to 8 of reading, 9, 10.
-pub fn class_of(file: &[u8]) -> Classed
-    ensures { λ r. ⌜ ClassReply (now (file .entry)) r ⌝ }
-{
-    let t = netlist::read(file);
-    let reading = t.reading;
-    let z = match reading {
-        netlist::Reading::Refused(k, p) => {
-            return Classed::Refused(k, p);
-        }
-        netlist::Reading::Taken(z) => z,
-    };
-    let kinds = t.kinds;
-    let counts = t.counts;
-    let nets = t.nets;
-    let mut firsts = [0u16; 1025];
-    let mut order = [0u16; 1024];
-    let mut branches = [0u16; 4096];
-    let mut block = [0u16; 4096];
-    let mut reached = [0u64; 4160];
-    match prepare(
-        z.inputs,
-        z.cells,
-        z.outputs,
-        z.pins,
-        &kinds,
-        &counts,
-        &nets,
-        &mut firsts,
-        &mut order,
-        &mut branches,
-        &mut block,
-        &mut reached,
-    ) {
-        Found::Looped(m) => Classed::Refused(9, m),
-        Found::TooDeep(y) => Classed::Refused(10, y),
-        Found::Chip(s) => Classed::Class(s.class, s.depth, s.blocks),
-    }
 }

@@ -18,9 +18,11 @@ use Rattle.levels.specs.Levels.{PinMasks}
 use Rattle.blocks.specs.Labels.{BlockTable}
 use Rattle.structure.specs.Inner.Shape.{Shaped}
 use Rattle.structure.specs.declared.Shape.{Shape}
-use Rattle.plays.specs.Plays.{AllBits}
+use Rattle.chip.specs.Faults.{AllBits}
 use Rattle.sweeps.specs.Copied.{marked, Places, Copied, ClockSet}
-use Rattle.sweeps.specs.Swept.{Even, PlaySet, PatternRead}
+use Rattle.sweeps.specs.Swept.{Even}
+use Rattle.chip.specs.Clocks.{patternOf}
+use Rattle.chip.specs.Replies.{PlaySet, PatternRead}
 use Rattle.sweeps.proofs.Sweeping.{Marks, marks, Tabled, depth-copied, places, SetTo, set-more, set-done, ReadTo, read-more, read-done}
 
 module _ {N : Netlist} {n : ℕ} {firsts order branches block reached : List ℕ} {s : Shape} (limits : InLimits N) (pins : n ≡ allPins N) (S : Shaped N firsts order branches block reached s) where
@@ -104,7 +106,7 @@ module _ (i c o : ℕ) (kinds counts nets : List ℕ) (n d b : ℕ) (firsts orde
 
     pub set-all : (pattern entry play : List ℕ) → AllBits pattern → suc d * i ≤ length entry
         → SetTo (tabled i c o kinds counts nets) (blocks (tabled i c o kinds counts nets) low) d z (suc d) pattern entry play
-        → PlaySet (tabled i c o kinds counts nets) (blocks (tabled i c o kinds counts nets) low) d z pattern entry play
+        → PlaySet (tabled i c o kinds counts nets) (blocks (tabled i c o kinds counts nets) low) d z (patternOf pattern) entry play
     set-all pattern entry play bits room S =
         set-done _ (E .limits .sound) order-of (E .limits .some-input) d (E .prepared .depth .within) _ (even-balanced E low L) z zo pattern bits entry play room S
 

@@ -1,40 +1,44 @@
 -- The file of a transformed circuit reads back as that circuit. Transforming it gives the same bytes again, where no flip-flop is fed by an input or a pad buffer.
 use Prim.Native.Nat.{ℕ, zero, suc, _+_, _≤_}
-use mathlib.Core.Path.{_≡_, refl, ap, _∙_}
+use mathlib.Core.Path.{_≡_, refl, sym, ap, _∙_, subst}
 use mathlib.Core.Logic.{inl}
+use mathlib.Core.List.{List, _++_}
 use native.Mathlib.Omega.{arith}
+use lib.ListN.{length, take, drop}
+use lib.Seq.{take-append-seam}
 use Rattle.chip.specs.Netlist.{Netlist, Sound, InLimits, sumBelow, allPins}
+use Rattle.chip.specs.Got.{got}
+use Rattle.chip.specs.Format.{Parsed, readOf, chipOf}
 use Rattle.chip.specs.Pads.{NoFlopAtPad}
 use Rattle.chip.specs.Class.{LoopFree, Depth, Lowest, Blocks, blocksOf, blocks, Prepared}
 use Rattle.chip.specs.Transformed.{oldCell, copies, transformed}
+use Rattle.chip.specs.File.{fileOf, transformedFile}
+use Rattle.chip.specs.Refusals.{goes-on, Opens, read, opened, prepared}
+use Rattle.chip.specs.Replies.{TransformOn, TransformReply}
+use Rattle.chip.specs.declared.Transformed.the-variants.{Written}
 use Rattle.chip.proofs.Basics.{Ranked, Counted, sum-up, takes-flat, flat-known}
 use Rattle.chip.proofs.Blocks.{counted}
 use Rattle.chip.proofs.Copies.{out-moved}
 use Rattle.chip.proofs.Loops.{ranked, loop-free}
 use Rattle.chip.proofs.Lowest.{has-lowest}
-use Rattle.chip.proofs.Transformed.{transformed-sound, transformed-ranked, old-low, flat-reach}
+use Rattle.chip.proofs.Transforming.{transformed-sound, transformed-ranked, old-low, flat-reach}
 use Rattle.chip.proofs.Twice.{Same, count-again, copies-again, twice}
 use Rattle.chip.proofs.Theorem.{has-prepared}
-use Rattle.fields.specs.Got.{got}
-use Rattle.fields.specs.Format.{Parsed, readOf}
-use Rattle.netlist.specs.Chip.{chipOf}
-use Rattle.structure.specs.Opens.{Opens, opened}
-use Rattle.writing.specs.File.{fileOf}
+use Rattle.replies.proofs.Opening.{opened-limits}
 use Rattle.writing.proofs.RoundTrip.{Pads, parsedOf, read-file}
 use Rattle.writing.proofs.Alike.{parsed-alike, pins-alike, file-same}
-use Rattle.transform.specs.File.{transformedFile}
-use Rattle.transform.specs.Reply.{Writable}
 use Rattle.transform.proofs.Alike.{SameBlocks, sound-alike, reach-alike, free-alike, lowest-alike, blocks-alike, copies-alike, opened-alike}
+use Rattle.transform.proofs.Answers.{Writable, writes-on, circuit-written, opened-written}
 
 -- what transforming finds in the file of a transformed circuit
 pub record Again (N : Netlist) (low : ℕ → ℕ) : Type 0 where
-  pub x : Parsed
+  pub netlist : Netlist
   pub low′ : ℕ → ℕ
   pub class : ℕ
-  pub opens : Opens (transformedFile N (blocks N low)) (got x)
-  pub prepared : Prepared (chipOf x) 0 low′ class
-  pub writable : Writable (chipOf x) (blocks (chipOf x) low′)
-  pub same : transformedFile (chipOf x) (blocks (chipOf x) low′) ≡ transformedFile N (blocks N low)
+  pub opens : Opens (transformedFile N (blocks N low)) (got netlist)
+  pub known : Prepared netlist 0 low′ class
+  pub writable : Writable netlist (blocks netlist low′)
+  pub same : transformedFile netlist (blocks netlist low′) ≡ transformedFile N (blocks N low)
 
 module _ (N : Netlist) (L : InLimits N) (free : LoopFree N) (low : ℕ → ℕ) (W : Lowest N low) where
   abbrev B : Blocks
@@ -118,11 +122,13 @@ module _ (N : Netlist) (L : InLimits N) (free : LoopFree N) (low : ℕ → ℕ) 
         let c : blocks M low′ .count ≡ B .count = K .count ∙ count-again N (L .sound) R quiet low W low′ W′ in
         let n : copies M (blocks M low′) ≡ 0 = copies-alike M T alike (blocks M low′) (blocks T low′) K ∙ copies-again N (L .sound) R quiet low W low′ W′ in
         record {
-          x = x;
+          netlist = M;
           low′ = low′;
           class = k;
-          opens = opened read-again free′ (λ z D. omega (arith, flat-depth .within z (D .pin) (D .depth) (D .input) (D .reach), D .over));
-          prepared = record { loop-free = free′; depth = flat-depth; lowest = lowest-alike M T alike low′ W′; classed = P .classed };
+          opens =
+              read read-again (goes-on (λ n w. free′ n (w .holds))
+              (goes-on (λ z w. let D = w .holds in omega (arith, flat-depth .within z (D .pin) (D .depth) (D .input) (D .reach), D .over)) refl));
+          known = record { loop-free = free′; depth = flat-depth; lowest = lowest-alike M T alike low′ W′; classed = P .classed };
           writable = record {
             few-blocks = omega (arith, c, F .few-blocks);
             few-cells = omega (arith, n, alike .cells, F .few-cells);
@@ -133,3 +139,22 @@ module _ (N : Netlist) (L : InLimits N) (free : LoopFree N) (low : ℕ → ℕ) 
               ∙ file-same (transformed M (blocks M low′)) (transformed T (blocks T low′)) (opened-alike M T alike (blocks M low′) (blocks T low′) K new-sound new-ranked) (λ b. b + 1) (λ k. B .count + 1 + k)
               ∙ file-same (transformed T (blocks T low′)) T (twice N (L .sound) R quiet low W low′ W′) (λ b. b + 1) (λ k. B .count + 1 + k);
         }
+
+again-written : (N : Netlist) → InLimits N → NoFlopAtPad N → (entry : List ℕ) {n : ℕ} {exit : List ℕ} → TransformOn N entry (Written n, exit)
+    → (entry′ : List ℕ) → n ≤ length entry′ → TransformReply (take n exit) entry′ (Written n, take n exit ++ drop n entry′)
+again-written N L quiet entry {n} {exit} (prepared {low = low} P c) entry′ h =
+    let (few, e, w) = circuit-written N (blocks N low) entry c in
+    let A : Again N low = again N L (P .loop-free) low (P .lowest) few quiet in
+    let F : List ℕ = transformedFile N (blocks N low) in
+    let r : TransformReply F entry′ (Written (length F), F ++ drop (length F) entry′) =
+    subst (λ l. TransformReply F entry′ (Written (length l), l ++ drop (length l) entry′)) (A .same)
+    (opened (A .opens) (prepared (A .known) (writes-on (A .netlist) (blocks (A .netlist) (A .low′)) entry′ (A .writable) (record { room = rw (A .same, sym e) h; now-is = refl })))) in
+    let t : take n exit ≡ F = rw (w .now-is, e) (take-append-seam F (drop (length F) entry)) in
+    rw (t, e) r
+
+-- Transforming the result of a transform returns the same bytes, where no flip-flop is fed by an input or a pad buffer.
+pub transform-again : (file entry : List ℕ) (n : ℕ) (exit : List ℕ) → TransformReply file entry (Written n, exit) → ((N : Netlist) → Opens file (got N) → NoFlopAtPad N)
+    → (entry′ : List ℕ) → n ≤ length entry′ → TransformReply (take n exit) entry′ (Written n, take n exit ++ drop n entry′)
+transform-again file entry n exit r quiet =
+    let (N, o, t) = opened-written file entry r in
+    again-written N (opened-limits o) (quiet N o) entry t

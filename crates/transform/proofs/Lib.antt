@@ -1,7 +1,6 @@
 pub mod Alike
+pub mod Answers
 pub mod Again
-pub mod Unique
 pub mod NewTables
 pub mod New
 pub mod Filled
-pub mod Answers

@@ -9,10 +9,10 @@ use Rattle.chip.specs.Netlist.{Netlist, Sound}
 use Rattle.chip.specs.Class.{Blocks}
 use Rattle.chip.specs.Transformed.{oldCell, copies, flat, transformed}
 use Rattle.chip.specs.Inner.Tables.{tabled}
-use Rattle.transform.specs.Inner.New.{NewTables}
 use Rattle.chip.proofs.Basics.{Ranked}
 use Rattle.chip.proofs.Copies.{old-of-cell, copy-kind, copy-pins}
 use Rattle.chip.proofs.Twice.{Same}
+use Rattle.transform.specs.Inner.New.{NewTables}
 
 flat-0 : _≡_ {A = ℕ} (flat 0) 0
 unfolding flat

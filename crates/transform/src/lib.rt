@@ -6,30 +6,42 @@ ghost use mathlib.Core.List.{List};
 ghost use Prim.Native.Nat.{ℕ, _+_, _*_, _≤_, _<_};
 ghost use lib.Dec.{ltb};
 ghost use lib.ListN.{length, getD};
-ghost use Rattle.chip.specs.Netlist.{Netlist, outPin, allPins, InLimits};
-ghost use Rattle.chip.specs.Inner.Tables.{tabled, FirstPins, BranchTable};
+ghost use Rattle.chip.specs.Netlist.{Netlist, allPins, InLimits};
 ghost use Rattle.chip.specs.Class.{LoopFree, Lowest, blocks};
 ghost use Rattle.chip.specs.Transformed.{netFor, home, flat};
+ghost use Rattle.chip.specs.File.{transformedFile};
+ghost use Rattle.chip.specs.Refusals.{Wrote};
+ghost use Rattle.chip.specs.Replies.{CircuitOn, TransformOn, TransformReply};
+ghost use Rattle.chip.specs.Inner.Tables.{tabled, FirstPins, BranchTable};
 ghost use Rattle.blocks.specs.Labels.{Numbered};
-ghost use Rattle.structure.specs.Refusals.{Wrote};
-ghost use Rattle.transform.specs.File.{transformedFile};
-ghost use Rattle.transform.specs.Reply.{CircuitReply, TransformReply};
-ghost use Rattle.transform.specs.Inner.New.{Copied, Room, NewCells, moved, OldNets, CopyNets};
-ghost use Rattle.netlist.specs.Inner.Holds.{Holds};
-ghost use Rattle.netlist.specs.declared.Reading.{Reading};
+ghost use Rattle.opening.specs.Open.{netlistOf, IsOpen};
+ghost use Rattle.transform.specs.Inner.New.{Copied, Room, NewCells, moved, netOf, Totalled, OldNets, CopyNets};
+use chip::Block;
+use chip::Branches;
+use chip::CELLS;
+use chip::Counts;
+use chip::Firsts;
+use chip::Kinds;
+use chip::Nets;
+use chip::PINS;
+use chip::Transformed;
 use chip::flat_kind;
 use chip::wide;
-use netlist::Sizes;
-use structure::Found;
+use opening::Chip;
+use opening::Opening;
 
-// What transforming answers: the length of the file that was written, or a refusal's number and place.
-pub enum Transformed {
-    Written(usize),
-    Refused(u8, usize),
+// How many there are: of the netlist's inputs, cells, outputs and pins, of its blocks, and of the copies that these have.
+struct Totals {
+    inputs: usize,
+    cells: usize,
+    outputs: usize,
+    pins: usize,
+    blocks: usize,
+    copies: usize,
 }
 
 // The kind and the pin count of cell j of the transformed circuit: those of an old cell without its flip-flop, or a BUF's.
-fn new_kind(c: usize, kinds: &[u8; 1024], j: usize) -> u8
+fn new_kind(c: usize, kinds: &Kinds, j: usize) -> u8
     requires { ⌜ c ≤ 1024 ⌝ }
     ensures { λ r. ⌜ r ≡ cond (ltb j c) (flat (getD (now (kinds .entry)) j 0)) 0 ⌝ }
 {
@@ -39,7 +51,7 @@ fn new_kind(c: usize, kinds: &[u8; 1024], j: usize) -> u8
     0
 }
 
-fn new_count(c: usize, counts: &[u8; 1024], j: usize) -> u8
+fn new_count(c: usize, counts: &Counts, j: usize) -> u8
     requires { ⌜ c ≤ 1024 ⌝ }
     ensures { λ r. ⌜ r ≡ cond (ltb j c) (getD (now (counts .entry)) j 0) 1 ⌝ }
 {
@@ -50,14 +62,7 @@ fn new_count(c: usize, counts: &[u8; 1024], j: usize) -> u8
 }
 
 // The cells of the transformed circuit: the c old ones, and then the copies, in all k.
-fn new_cells(
-    c: usize,
-    k: usize,
-    kinds: &[u8; 1024],
-    counts: &[u8; 1024],
-    flats: &mut [u8],
-    sizes: &mut [u8],
-)
+fn new_cells(c: usize, k: usize, kinds: &Kinds, counts: &Counts, flats: &mut [u8], sizes: &mut [u8])
     requires { ⌜ (c ≤ 1024) × (k ≤ 1024) × (length (now flats) ≡ 1024) × (length (now sizes) ≡ 1024) ⌝ }
     ensures { λ _. ⌜ NewCells c k (now (kinds .entry)) (now (counts .entry)) (now (flats .exit)) (now (sizes .exit)) ⌝ }
 {
@@ -92,9 +97,9 @@ fn new_net(
     i: usize,
     c: usize,
     b: usize,
-    nets: &[u16; 4096],
-    branches: &[u16; 4096],
-    block: &[u16; 4096],
+    nets: &Nets,
+    branches: &Branches,
+    block: &Block,
     lowest: &[u16; 64],
     marks: &[u8],
     numbers: &[u16],
@@ -128,119 +133,115 @@ fn new_pin(first: usize, m: usize, p: usize) -> usize
     p + m
 }
 
-// The nets of the netlist's n pins: those of the cells at their old places, those of the outputs, from pin `first` on, after the pins of m copies.
+// The nets of the netlist's pins: those of the cells at their old places, those of the outputs, from pin `first` on, after the pins of the copies.
 fn old_nets(
-    i: usize,
-    c: usize,
-    o: usize,
-    n: usize,
-    b: usize,
-    m: usize,
+    t: Totals,
     first: usize,
-    kinds: &[u8; 1024],
-    counts: &[u8; 1024],
-    nets: &[u16; 4096],
-    branches: &[u16; 4096],
-    block: &[u16; 4096],
+    nets: &Nets,
+    branches: &Branches,
+    block: &Block,
     lowest: &[u16; 64],
     marks: &[u8],
     numbers: &[u16],
     table: &mut [u16],
 )
-    requires { ⌜ (n ≡ allPins (tabled i c o (now kinds) (now counts) (now nets))) × (first ≡ outPin (tabled i c o (now kinds) (now counts) (now nets)) 0) ⌝ }
-    requires { ⌜ ((low : ℕ → ℕ) × Copied (tabled i c o (now kinds) (now counts) (now nets)) low b (now branches) (now block) (now lowest) (now marks) (now numbers) m) ⌝ }
-    requires { ⌜ length (now table) ≡ 4096 ⌝ }
+    requires { ⌜ ((kinds : List ℕ) × (counts : List ℕ) × (low : ℕ → ℕ) × Totalled t kinds counts (now nets) low (now branches) (now block) (now lowest) (now marks) (now numbers)) ⌝ }
+    requires { ⌜ (first + t .outputs ≡ t .pins) × (length (now table) ≡ 4096) ⌝ }
     ensures { λ _. ⌜ length (now (table .exit)) ≡ 4096 ⌝ }
-    ensures { λ _. ⌜ ((low : ℕ → ℕ) → Copied (tabled i c o (now (kinds .entry)) (now (counts .entry)) (now (nets .entry))) low b (now (branches .entry)) (now (block .entry)) (now (lowest .entry)) (now (marks .entry)) (now (numbers .entry)) m
-        → OldNets (tabled i c o (now (kinds .entry)) (now (counts .entry)) (now (nets .entry))) (blocks (tabled i c o (now (kinds .entry)) (now (counts .entry)) (now (nets .entry))) low) m n (now (table .exit))) ⌝ }
+    ensures { λ _. ⌜ ((kinds counts : List ℕ) (low : ℕ → ℕ) → Totalled t kinds counts (now (nets .entry)) low (now (branches .entry)) (now (block .entry)) (now (lowest .entry)) (now (marks .entry)) (now (numbers .entry))
+        → OldNets (netOf t kinds counts (now (nets .entry))) (blocks (netOf t kinds counts (now (nets .entry))) low) (t .copies) (t .pins) (now (table .exit))) ⌝ }
 {
+    let n = t.pins;
     let mut p = 0;
     while p < n {
-        let at = new_pin(first, m, p);
-        table[at] = new_net(i, c, b, nets, branches, block, lowest, marks, numbers, p);
+        let at = new_pin(first, t.copies, p);
+        table[at] = new_net(
+            t.inputs,
+            t.cells,
+            t.blocks,
+            nets,
+            branches,
+            block,
+            lowest,
+            marks,
+            numbers,
+            p,
+        );
         p += 1;
     }
 }
 
 // The nets of the copies' pins, from pin `first` on: what stands in a copy's block for the net that feeds its cell.
 fn copy_nets(
-    i: usize,
-    c: usize,
-    o: usize,
-    b: usize,
-    m: usize,
+    t: Totals,
     first: usize,
-    kinds: &[u8; 1024],
-    counts: &[u8; 1024],
-    firsts: &[u16; 1025],
-    nets: &[u16; 4096],
-    branches: &[u16; 4096],
-    block: &[u16; 4096],
-    lowest: &[u16; 64],
+    firsts: &Firsts,
+    nets: &Nets,
     marks: &[u8],
     numbers: &[u16],
     table: &mut [u16],
 )
-    requires { ⌜ FirstPins (tabled i c o (now kinds) (now counts) (now nets)) (now firsts) ⌝ }
-    requires { ⌜ first ≡ outPin (tabled i c o (now kinds) (now counts) (now nets)) 0 ⌝ }
-    requires { ⌜ ((low : ℕ → ℕ) × Copied (tabled i c o (now kinds) (now counts) (now nets)) low b (now branches) (now block) (now lowest) (now marks) (now numbers) m) ⌝ }
-    requires { ⌜ length (now table) ≡ 4096 ⌝ }
-    ensures { λ _. ⌜ ((low : ℕ → ℕ) → Copied (tabled i c o (now (kinds .entry)) (now (counts .entry)) (now (nets .entry))) low b (now (branches .entry)) (now (block .entry)) (now (lowest .entry)) (now (marks .entry)) (now (numbers .entry)) m
-        → CopyNets (tabled i c o (now (kinds .entry)) (now (counts .entry)) (now (nets .entry))) (blocks (tabled i c o (now (kinds .entry)) (now (counts .entry)) (now (nets .entry))) low) (1024 * b) (now (table .exit))) ⌝ }
-    ensures { λ _. ⌜ ((p : ℕ) → (p < first) ⊎ (first + m ≤ p) → getD (now (table .exit)) p 0 ≡ getD (now (table .entry)) p 0) ⌝ }
+    requires { ⌜ ((kinds : List ℕ) × (counts : List ℕ) × (low : ℕ → ℕ) × (branches : List ℕ) × (block : List ℕ) × (lowest : List ℕ)
+        × FirstPins (netOf t kinds counts (now nets)) (now firsts) × Totalled t kinds counts (now nets) low branches block lowest (now marks) (now numbers)) ⌝ }
+    requires { ⌜ (first + t .outputs ≡ t .pins) × (length (now table) ≡ 4096) ⌝ }
+    ensures { λ _. ⌜ ((kinds counts : List ℕ) (low : ℕ → ℕ) (branches block lowest : List ℕ) → FirstPins (netOf t kinds counts (now (nets .entry))) (now (firsts .entry))
+        → Totalled t kinds counts (now (nets .entry)) low branches block lowest (now (marks .entry)) (now (numbers .entry))
+        → CopyNets (netOf t kinds counts (now (nets .entry))) (blocks (netOf t kinds counts (now (nets .entry))) low) (1024 * t .blocks) (now (table .exit))) ⌝ }
+    ensures { λ _. ⌜ ((p : ℕ) → (p < first) ⊎ (first + t .copies ≤ p) → getD (now (table .exit)) p 0 ≡ getD (now (table .entry)) p 0) ⌝ }
 {
+    let b = t.blocks;
     let mut l = 0;
     while l < 1024 * b {
         if marks[l] == 1 {
             let p = wide(firsts[l % 1024]);
-            let net = net_for(i, c, b, marks, numbers, l / 1024, wide(nets[p]));
+            let net = net_for(
+                t.inputs,
+                t.cells,
+                b,
+                marks,
+                numbers,
+                l / 1024,
+                wide(nets[p]),
+            );
             table[first + wide(numbers[l])] = net;
         }
         l += 1;
     }
 }
 
-// Writes the file of the transformed circuit with its m copies, for which there is room.
+// Writes the file of the transformed circuit with its copies, for which there is room.
 fn put_tables(
-    i: usize,
-    c: usize,
-    o: usize,
-    n: usize,
-    b: usize,
-    m: usize,
-    kinds: &[u8; 1024],
-    counts: &[u8; 1024],
-    firsts: &[u16; 1025],
-    nets: &[u16; 4096],
-    branches: &[u16; 4096],
-    block: &[u16; 4096],
+    t: Totals,
+    kinds: &Kinds,
+    counts: &Counts,
+    firsts: &Firsts,
+    nets: &Nets,
+    branches: &Branches,
+    block: &Block,
     lowest: &[u16; 64],
     marks: &[u8],
     numbers: &[u16],
     out: &mut [u8],
 )
-    requires { ⌜ FirstPins (tabled i c o (now kinds) (now counts) (now nets)) (now firsts) ⌝ }
-    requires { ⌜ n ≡ allPins (tabled i c o (now kinds) (now counts) (now nets)) ⌝ }
-    requires { ⌜ ((low : ℕ → ℕ) × Copied (tabled i c o (now kinds) (now counts) (now nets)) low b (now branches) (now block) (now lowest) (now marks) (now numbers) m) ⌝ }
-    requires { ⌜ 6 + b + 2 * (c + m) + 2 * (n + m) + o ≤ length (now out) ⌝ }
-    ensures { λ _. ⌜ ((low : ℕ → ℕ) → Copied (tabled i c o (now (kinds .entry)) (now (counts .entry)) (now (nets .entry))) low b (now (branches .entry)) (now (block .entry)) (now (lowest .entry)) (now (marks .entry)) (now (numbers .entry)) m
-        → Wrote (transformedFile (tabled i c o (now (kinds .entry)) (now (counts .entry)) (now (nets .entry))) (blocks (tabled i c o (now (kinds .entry)) (now (counts .entry)) (now (nets .entry))) low)) (now (out .entry)) (now (out .exit))) ⌝ }
+    requires { ⌜ FirstPins (netOf t (now kinds) (now counts) (now nets)) (now firsts) ⌝ }
+    requires { ⌜ ((low : ℕ → ℕ) × Totalled t (now kinds) (now counts) (now nets) low (now branches) (now block) (now lowest) (now marks) (now numbers)) ⌝ }
+    requires { ⌜ 6 + t .blocks + 2 * (t .cells + t .copies) + 2 * (t .pins + t .copies) + t .outputs ≤ length (now out) ⌝ }
+    ensures { λ _. ⌜ ((low : ℕ → ℕ) → Totalled t (now (kinds .entry)) (now (counts .entry)) (now (nets .entry)) low (now (branches .entry)) (now (block .entry)) (now (lowest .entry)) (now (marks .entry)) (now (numbers .entry))
+        → Wrote (transformedFile (netOf t (now (kinds .entry)) (now (counts .entry)) (now (nets .entry))) (blocks (netOf t (now (kinds .entry)) (now (counts .entry)) (now (nets .entry))) low)) (now (out .entry)) (now (out .exit))) ⌝ }
 {
-    let mut flats = [0u8; 1024];
-    let mut sizes = [0u8; 1024];
+    let c = t.cells;
+    let o = t.outputs;
+    let n = t.pins;
+    let b = t.blocks;
+    let m = t.copies;
+    let mut flats = [0u8; CELLS];
+    let mut sizes = [0u8; CELLS];
     new_cells(c, c + m, kinds, counts, &mut flats, &mut sizes);
     let first = n - o;
-    let mut table = [0u16; 4096];
+    let mut table = [0u16; PINS];
     old_nets(
-        i,
-        c,
-        o,
-        n,
-        b,
-        m,
+        t,
         first,
-        kinds,
-        counts,
         nets,
         branches,
         block,
@@ -249,40 +250,23 @@ fn put_tables(
         numbers,
         &mut table,
     );
-    copy_nets(
-        i,
-        c,
-        o,
-        b,
-        m,
-        first,
-        kinds,
-        counts,
-        firsts,
-        nets,
-        branches,
-        block,
-        lowest,
-        marks,
-        numbers,
-        &mut table,
-    );
+    copy_nets(t, first, firsts, nets, marks, numbers, &mut table);
     writing::put_file(b, c + m, o, n + m, &flats, &sizes, &table, out);
 }
 
 // 17, 2, 7 and 15, or the file is written.
-fn put_chip(
+fn put_chip<'a>(
     i: usize,
     c: usize,
     o: usize,
     n: usize,
     b: usize,
-    kinds: &[u8; 1024],
-    counts: &[u8; 1024],
-    firsts: &[u16; 1025],
-    nets: &[u16; 4096],
-    branches: &[u16; 4096],
-    block: &[u16; 4096],
+    kinds: &'a Kinds,
+    counts: &'a Counts,
+    firsts: &'a Firsts,
+    nets: &'a Nets,
+    branches: &'a Branches,
+    block: &'a Block,
     out: &mut [u8],
 ) -> Transformed
     requires { ⌜ InLimits (tabled i c o (now kinds) (now counts) (now nets)) ⌝ }
@@ -293,7 +277,7 @@ fn put_chip(
     requires { ⌜ ((low : ℕ → ℕ) × Lowest (tabled i c o (now kinds) (now counts) (now nets)) low × Numbered (tabled i c o (now kinds) (now counts) (now nets)) low (now block) b) ⌝ }
     ensures { λ r. ⌜ ((low : ℕ → ℕ) → Lowest (tabled i c o (now (kinds .entry)) (now (counts .entry)) (now (nets .entry))) low
         → Numbered (tabled i c o (now (kinds .entry)) (now (counts .entry)) (now (nets .entry))) low (now (block .entry)) b
-        → CircuitReply (tabled i c o (now (kinds .entry)) (now (counts .entry)) (now (nets .entry))) (blocks (tabled i c o (now (kinds .entry)) (now (counts .entry)) (now (nets .entry))) low) (now (out .entry)) r (now (out .exit))) ⌝ }
+        → CircuitOn (tabled i c o (now (kinds .entry)) (now (counts .entry)) (now (nets .entry))) (blocks (tabled i c o (now (kinds .entry)) (now (counts .entry)) (now (nets .entry))) low) (now (out .entry)) (r, now (out .exit))) ⌝ }
 {
     if 64 < b {
         return Transformed::Refused(17, b);
@@ -327,13 +311,16 @@ fn put_chip(
     if out.len() < length {
         return Transformed::Refused(15, length);
     }
+    let t = Totals {
+        inputs: i,
+        cells: c,
+        outputs: o,
+        pins: n,
+        blocks: b,
+        copies: m,
+    };
     put_tables(
-        i,
-        c,
-        o,
-        n,
-        b,
-        m,
+        t,
         kinds,
         counts,
         firsts,
@@ -348,80 +335,38 @@ fn put_chip(
     Transformed::Written(length)
 }
 
-// From the tables of a file that was taken: 9, 10, or what is answered of its chip.
-fn transform_tables(
-    z: Sizes,
-    kinds: &[u8; 1024],
-    counts: &[u8; 1024],
-    nets: &[u16; 4096],
-    out: &mut [u8],
-) -> Transformed
-    requires { ⌜ InLimits (tabled (z .inputs) (z .cells) (z .outputs) (now kinds) (now counts) (now nets)) ⌝ }
-    requires { ⌜ z .pins ≡ allPins (tabled (z .inputs) (z .cells) (z .outputs) (now kinds) (now counts) (now nets)) ⌝ }
-    ensures { λ r. ⌜ ((file : List ℕ) (reading : Reading) (pads : List ℕ)
-        → Holds file (record { reading = reading; pads = pads; kinds = now (kinds .entry); counts = now (counts .entry); nets = now (nets .entry) }) z
-        → TransformReply file (now (out .entry)) r (now (out .exit))) ⌝ }
+// Transforms an open chip: the file of its transformed circuit is written to the front of a lent buffer.
+// Refuses 17 (too many blocks), 2 and 7 (too many cells or pins in the transformed circuit), 15 (too short a buffer); the buffer then stays as it was.
+pub fn transform_on(opened: Chip, out: &mut [u8]) -> Transformed
+    requires { ⌜ IsOpen opened ⌝ }
+    ensures { λ r. ⌜ TransformOn (netlistOf opened) (now (out .entry)) (r, now (out .exit)) ⌝ }
 {
-    let i = z.inputs;
-    let c = z.cells;
-    let o = z.outputs;
-    let n = z.pins;
-    let mut firsts = [0u16; 1025];
-    let mut order = [0u16; 1024];
-    let mut branches = [0u16; 4096];
-    let mut block = [0u16; 4096];
-    let mut reached = [0u64; 4160];
-    match structure::prepare(
-        i,
-        c,
-        o,
-        n,
-        kinds,
-        counts,
-        nets,
-        &mut firsts,
-        &mut order,
-        &mut branches,
-        &mut block,
-        &mut reached,
-    ) {
-        Found::Looped(m) => Transformed::Refused(9, m),
-        Found::TooDeep(y) => Transformed::Refused(10, y),
-        Found::Chip(s) => {
-            let b = s.blocks;
-            put_chip(
-                i,
-                c,
-                o,
-                n,
-                b,
-                kinds,
-                counts,
-                &firsts,
-                nets,
-                &branches,
-                &block,
-                out,
-            )
-        }
-    }
+    let z = opened.sizes;
+    let s = opened.shape;
+    put_chip(
+        z.inputs,
+        z.cells,
+        z.outputs,
+        z.pins,
+        s.blocks,
+        &opened.kinds,
+        &opened.counts,
+        &opened.firsts,
+        &opened.nets,
+        &opened.branches,
+        &opened.block,
+        out,
+    )
 }
 
-// Transforms a netlist file: the file of its transformed circuit is written to the front of a lent buffer.
-// Refusals, in this order: 1 to 8 of reading, 9, 10, 17, 2 and 7 of the transformed circuit, 15. The buffer then stays as it was.
+// Transforms a netlist file, or refuses it: 1 to 10, 17, 2, 7, 15.
 pub fn transform(file: &[u8], out: &mut [u8]) -> Transformed
-    ensures { λ r. ⌜ TransformReply (now (file .entry)) (now (out .entry)) r (now (out .exit)) ⌝ }
+    ensures { λ r. ⌜ TransformReply (now (file .entry)) (now (out .entry)) (r, now (out .exit)) ⌝ }
 {
-    let t = netlist::read(file);
-    let reading = t.reading;
-    let z = match reading {
-        netlist::Reading::Refused(k, p) => {
-            return Transformed::Refused(k, p);
-        }
-        netlist::Reading::Taken(z) => z,
-    };
-    let kinds = t.kinds;
-    let counts = t.counts;
-    let nets = t.nets;
-    transform_tables(z, &kinds, &counts, &nets, out)
+    let opened = opening::open(file);
+    let opening = opened.opening;
+    match opening {
+        Opening::Refused(k, p) => Transformed::Refused(k, p),
+        Opening::Open => transform_on(opened, out),
+    }
 }

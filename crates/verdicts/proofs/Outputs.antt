@@ -17,7 +17,7 @@ use Rattle.chip.proofs.Blocks.{tally-same}
 use Rattle.words.proofs.Bits.{digit-xor}
 use Rattle.slots.specs.Slots.{relOf}
 use Rattle.slots.proofs.Repeats.{tried-repeats}
-use Rattle.bridge.specs.Chunk.{faultNumber}
+use Rattle.faults.specs.Numbers.{faultNumber}
 use Rattle.known.specs.Setting.{Shows, Long}
 use Rattle.stages.specs.Stage.{OutsOnly}
 use Rattle.rows.proofs.Bits.{split, meet}

@@ -21,12 +21,26 @@ ghost use Rattle.benches.specs.Benches.{Fitted, Group};
 ghost use Rattle.groups.specs.Groups.{Sofar};
 ghost use Rattle.groups.specs.Chunks.{Store};
 ghost use Rattle.verdicts.specs.Verdicts.{SiteMasks, Widths, WideWord, Started, sizeOf, Sought, LikeTried, AllSofar, Judged};
+use chip::ALL_NETS;
+use chip::BLOCKS;
+use chip::Block;
+use chip::Branches;
+use chip::CELLS;
+use chip::Counts;
+use chip::FAULTS;
+use chip::Firsts;
+use chip::Kinds;
+use chip::Nets;
+use chip::Order;
+use chip::PINS;
+use chip::PinWords;
+use chip::Reached;
 use chip::wide;
 use structure::Shape;
 use walk::Walk;
 
 // The outputs that each site reaches: a pin those of its cone, a net those of the pins that name it.
-fn site_masks(base: usize, n: usize, nets: &[u16; 4096], cone: &[u64; 4096], sites: &mut [u64])
+fn site_masks(base: usize, n: usize, nets: &Nets, cone: &PinWords, sites: &mut [u64])
     requires { ⌜ (base ≤ 1088) × (n ≤ 4096) × ((p : ℕ) → p < n → getD (now nets) p 0 < base) ⌝ }
     requires { ⌜ (length (now sites) ≡ 5184) × ((s : ℕ) → getD (now sites) s 0 ≡ 0) ⌝ }
     ensures { λ _. ⌜ ((N : Netlist) → n ≡ allPins N → base ≡ N .inputs + N .cells → ((p : ℕ) → N .net p ≡ getD (now (nets .entry)) p 0) → ReachMasks N (now (cone .entry)) → SiteMasks N (now (sites .exit))) ⌝ }
@@ -39,7 +53,7 @@ fn site_masks(base: usize, n: usize, nets: &[u16; 4096], cone: &[u64; 4096], sit
 }
 
 // How many of the b blocks stand behind each of the o outputs.
-fn all_widths(o: usize, b: usize, reached: &[u64; 4160], widths: &mut [u16])
+fn all_widths(o: usize, b: usize, reached: &Reached, widths: &mut [u16])
     requires { ⌜ (o ≤ 64) × (b ≤ 4160) × (length (now widths) ≡ 64) ⌝ }
     ensures { λ _. ⌜ Widths o b (now (reached .entry)) (now (widths .exit)) ⌝ }
 {
@@ -115,14 +129,14 @@ fn try_like(
     s: Shape,
     z: usize,
     g: u64,
-    kinds: &[u8; 1024],
-    counts: &[u8; 1024],
-    firsts: &[u16; 1025],
-    nets: &[u16; 4096],
-    order: &[u16; 1024],
-    branches: &[u16; 4096],
-    block: &[u16; 4096],
-    reached: &[u64; 4160],
+    kinds: &Kinds,
+    counts: &Counts,
+    firsts: &Firsts,
+    nets: &Nets,
+    order: &Order,
+    branches: &Branches,
+    block: &Block,
+    reached: &Reached,
     sources: &[u16],
     reach: &[u64],
     heads: &[u16],
@@ -142,7 +156,7 @@ fn try_like(
     ensures { λ _. ⌜ Watch i c (tabled i c o (now (kinds .entry)) (now (counts .entry)) (now (nets .entry))) (now (counts .entry)) (now (firsts .entry)) (now (order .entry)) (now (left .exit)) (now (groups .exit)) ⌝ }
     ensures { λ _. ⌜ LikeTried i c o n (s .blocks) z g (now (kinds .entry)) (now (counts .entry)) (now (nets .entry)) (now (reached .entry)) (now (left .entry)) (now (best .entry)) (now (pat .entry)) (now (left .exit)) (now (best .exit)) (now (pat .exit)) ⌝ }
 {
-    let mut src = [0u16; 4096];
+    let mut src = [0u16; PINS];
     let mut outs = [0u16; 64];
     let mut list = [0u16; 16];
     let w = benches::bench(
@@ -196,14 +210,14 @@ fn try_outputs(
     o: usize,
     n: usize,
     s: Shape,
-    kinds: &[u8; 1024],
-    counts: &[u8; 1024],
-    firsts: &[u16; 1025],
-    nets: &[u16; 4096],
-    order: &[u16; 1024],
-    branches: &[u16; 4096],
-    block: &[u16; 4096],
-    reached: &[u64; 4160],
+    kinds: &Kinds,
+    counts: &Counts,
+    firsts: &Firsts,
+    nets: &Nets,
+    order: &Order,
+    branches: &Branches,
+    block: &Block,
+    reached: &Reached,
     sources: &[u16],
     reach: &[u64],
     heads: &[u16],
@@ -268,15 +282,15 @@ fn try_fitted(
     o: usize,
     n: usize,
     s: Shape,
-    kinds: &[u8; 1024],
-    counts: &[u8; 1024],
-    firsts: &[u16; 1025],
-    nets: &[u16; 4096],
-    order: &[u16; 1024],
-    branches: &[u16; 4096],
-    block: &[u16; 4096],
-    reached: &[u64; 4160],
-    cone: &[u64; 4096],
+    kinds: &Kinds,
+    counts: &Counts,
+    firsts: &Firsts,
+    nets: &Nets,
+    order: &Order,
+    branches: &Branches,
+    block: &Block,
+    reached: &Reached,
+    cone: &PinWords,
     sources: &[u16],
     readers: &mut [u16],
     left: &mut [u64],
@@ -291,9 +305,9 @@ fn try_fitted(
     ensures { λ _. ⌜ AllSofar i c o n (s .blocks) 0 (now (kinds .entry)) (now (counts .entry)) (now (nets .entry)) (now (reached .entry)) (now (left .entry)) (now (left .exit)) (now (best .exit)) (now (pat .exit)) ⌝ }
     ensures { λ _. ⌜ (length (now (readers .exit)) ≡ n - o) × (length (now (groups .exit)) ≡ 1024) ⌝ }
 {
-    let mut reach = [0u64; 1024];
+    let mut reach = [0u64; CELLS];
     let mut heads = [0u16; 5185];
-    let mut input = [0u8; 4160];
+    let mut input = [0u8; BLOCKS];
     benches::chip_tables(
         i,
         c,
@@ -351,15 +365,15 @@ fn try_faults(
     o: usize,
     n: usize,
     s: Shape,
-    kinds: &[u8; 1024],
-    counts: &[u8; 1024],
-    firsts: &[u16; 1025],
-    nets: &[u16; 4096],
-    order: &[u16; 1024],
-    branches: &[u16; 4096],
-    block: &[u16; 4096],
-    reached: &[u64; 4160],
-    cone: &[u64; 4096],
+    kinds: &Kinds,
+    counts: &Counts,
+    firsts: &Firsts,
+    nets: &Nets,
+    order: &Order,
+    branches: &Branches,
+    block: &Block,
+    reached: &Reached,
+    cone: &PinWords,
     left: &mut [u64],
     best: &mut [u8],
     pat: &mut [u32],
@@ -368,9 +382,9 @@ fn try_faults(
     requires { ⌜ (s .class ≢ 1) × Long (now left) (now best) (now pat) × Sought i c o n (s .blocks) (now reached) (now left) (now best) ⌝ }
     ensures { λ _. ⌜ AllSofar i c o n (s .blocks) 0 (now (kinds .entry)) (now (counts .entry)) (now (nets .entry)) (now (reached .entry)) (now (left .entry)) (now (left .exit)) (now (best .exit)) (now (pat .exit)) ⌝ }
 {
-    let mut sources = [0u16; 1088];
+    let mut sources = [0u16; ALL_NETS];
     pads::sources(i, c, o, kinds, counts, firsts, nets, order, &mut sources);
-    let mut groups = [0u64; 1024];
+    let mut groups = [0u64; CELLS];
     benches::start_groups(
         i,
         c,
@@ -384,7 +398,7 @@ fn try_faults(
         left,
         &mut groups,
     );
-    let mut readers = [0u16; 4096];
+    let mut readers = [0u16; PINS];
     let m = n - o;
     try_fitted(
         i,
@@ -411,7 +425,7 @@ fn try_faults(
 }
 
 // Looks for faults `from` up to `to` of a prepared chip of class 2 or 3. Answers the outputs with more than 16 blocks behind them.
-pub fn judge(
+pub fn judge<'a>(
     from: usize,
     to: usize,
     i: usize,
@@ -419,15 +433,15 @@ pub fn judge(
     o: usize,
     n: usize,
     s: Shape,
-    kinds: &[u8; 1024],
-    counts: &[u8; 1024],
-    firsts: &[u16; 1025],
-    nets: &[u16; 4096],
-    order: &[u16; 1024],
-    branches: &[u16; 4096],
-    block: &[u16; 4096],
-    reached: &[u64; 4160],
-    cone: &[u64; 4096],
+    kinds: &'a Kinds,
+    counts: &'a Counts,
+    firsts: &'a Firsts,
+    nets: &'a Nets,
+    order: &'a Order,
+    branches: &'a Branches,
+    block: &'a Block,
+    reached: &'a Reached,
+    cone: &PinWords,
     sites: &mut [u64],
     widths: &mut [u16],
     best: &mut [u8],
@@ -442,7 +456,7 @@ pub fn judge(
     site_masks(i + c, n, nets, cone, sites);
     all_widths(o, s.blocks, reached, widths);
     let wides = wide_outputs(o, widths);
-    let mut left = [0u64; 10368];
+    let mut left = [0u64; FAULTS];
     start(from, to, wides, sites, &mut left);
     try_faults(
         i,

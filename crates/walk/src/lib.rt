@@ -12,6 +12,18 @@ ghost use Rattle.chip.specs.Search.{digit};
 ghost use Rattle.order.specs.Order.{Ordered};
 ghost use Rattle.slots.specs.Slots.{ReachMasks};
 ghost use Rattle.walk.specs.Walk.{Ready, widthOf, PatternBytes, Played};
+use chip::ALL_NETS;
+use chip::BLOCKS;
+use chip::Block;
+use chip::Branches;
+use chip::CELLS;
+use chip::Counts;
+use chip::Firsts;
+use chip::Kinds;
+use chip::Nets;
+use chip::Order;
+use chip::PinWords;
+use chip::Reached;
 use chip::flat_kind;
 use structure::Shape;
 
@@ -34,26 +46,26 @@ fn flatten(kinds: &[u8], flats: &mut [u8])
 }
 
 // The outputs that each pin reaches at any depth: those that it reaches at depth 0 once no cell is a flip-flop.
-pub fn reach_masks(
+pub fn reach_masks<'a>(
     i: usize,
     c: usize,
     o: usize,
-    kinds: &[u8; 1024],
-    counts: &[u8; 1024],
-    firsts: &[u16; 1025],
-    nets: &[u16; 4096],
-    order: &[u16; 1024],
-    cone: &mut [u64; 4096],
+    kinds: &'a Kinds,
+    counts: &'a Counts,
+    firsts: &'a Firsts,
+    nets: &'a Nets,
+    order: &'a Order,
+    cone: &mut PinWords,
 )
     requires { ⌜ InLimits (tabled i c o (now kinds) (now counts) (now nets)) ⌝ }
     requires { ⌜ FirstPins (tabled i c o (now kinds) (now counts) (now nets)) (now firsts) ⌝ }
     requires { ⌜ Ordered (tabled i c o (now kinds) (now counts) (now nets)) (now order) ⌝ }
     ensures { λ _. ⌜ ReachMasks (tabled i c o (now (kinds .entry)) (now (counts .entry)) (now (nets .entry))) (now (cone .exit)) ⌝ }
 {
-    let mut flats = [0u8; 1024];
+    let mut flats = [0u8; CELLS];
     flatten(kinds, &mut flats);
-    let before = [0u64; 1088];
-    let mut at_net = [0u64; 1088];
+    let before = [0u64; ALL_NETS];
+    let mut at_net = [0u64; ALL_NETS];
     levels::level(
         i,
         c,
@@ -71,7 +83,7 @@ pub fn reach_masks(
 }
 
 // How many of the first b blocks reach output z.
-pub fn width_of(b: usize, z: usize, reached: &[u64; 4160]) -> usize
+pub fn width_of(b: usize, z: usize, reached: &Reached) -> usize
     requires { ⌜ (b ≤ 4160) × (z < 64) ⌝ }
     ensures { λ r. ⌜ r ≡ widthOf b (now (reached .entry)) z ⌝ }
 {
@@ -95,7 +107,7 @@ fn digit_byte(m: u64, w: usize) -> u8
 }
 
 // Pattern m for output z as a byte for each of the b blocks: the lowest block that reaches z has the lowest bit, and the others are 0.
-fn pattern_bytes(b: usize, z: usize, m: u64, reached: &[u64; 4160], bytes: &mut [u8])
+fn pattern_bytes(b: usize, z: usize, m: u64, reached: &Reached, bytes: &mut [u8])
     requires { ⌜ (b ≤ 4160) × (z < 64) × (widthOf b (now reached) z ≤ 16) ⌝ }
     requires { ⌜ b ≤ length (now bytes) ⌝ }
     ensures { λ _. ⌜ PatternBytes b z m (now (reached .entry)) (now (bytes .entry)) (now (bytes .exit)) ⌝ }
@@ -114,7 +126,7 @@ fn pattern_bytes(b: usize, z: usize, m: u64, reached: &[u64; 4160], bytes: &mut 
 }
 
 // Sets the play of pattern m for output z.
-pub fn play_pattern(
+pub fn play_pattern<'a>(
     i: usize,
     c: usize,
     o: usize,
@@ -122,14 +134,14 @@ pub fn play_pattern(
     z: usize,
     m: usize,
     s: Shape,
-    kinds: &[u8; 1024],
-    counts: &[u8; 1024],
-    firsts: &[u16; 1025],
-    nets: &[u16; 4096],
-    order: &[u16; 1024],
-    branches: &[u16; 4096],
-    block: &[u16; 4096],
-    reached: &[u64; 4160],
+    kinds: &'a Kinds,
+    counts: &'a Counts,
+    firsts: &'a Firsts,
+    nets: &'a Nets,
+    order: &'a Order,
+    branches: &'a Branches,
+    block: &'a Block,
+    reached: &'a Reached,
     play: &mut [u8],
 )
     requires { ⌜ ((cone : List ℕ) × Ready (tabled i c o (now kinds) (now counts) (now nets)) n s (now firsts) (now order) (now branches) (now block) (now reached) cone) ⌝ }
@@ -140,7 +152,7 @@ pub fn play_pattern(
         (s .depth) z m (now (reached .entry)) (now (play .entry)) (now (play .exit))) ⌝ }
 {
     let b = s.blocks;
-    let mut bytes = [0u8; 4160];
+    let mut bytes = [0u8; BLOCKS];
     pattern_bytes(b, z, m as u64, reached, &mut bytes);
     sweeps::set_play(
         i,

@@ -5,8 +5,8 @@ use native.Mathlib.Omega.{arith}
 use Rattle.chip.specs.Netlist.{Netlist, firstPin, outPin, allPins}
 use Rattle.chip.proofs.Basics.{sum-up, sum-same}
 use Rattle.chip.proofs.Twice.{Same}
-use Rattle.netlist.specs.Chip.{chipOf}
-use Rattle.writing.specs.File.{pinsFile, cellsFile, outputsFile, fileOf}
+use Rattle.chip.specs.Format.{chipOf}
+use Rattle.chip.specs.File.{pinsFile, cellsFile, outputsFile, fileOf}
 use Rattle.writing.proofs.Lengths.{length-listed, listed-at}
 use Rattle.writing.proofs.RoundTrip.{parsedOf}
 

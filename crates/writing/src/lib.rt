@@ -5,9 +5,12 @@ ghost use Prim.Native.Nat.{ℕ, _+_, _*_, _≤_};
 ghost use lib.ListN.{length, getD};
 ghost use Rattle.chip.specs.Netlist.{sumBelow, allPins, InLimits};
 ghost use Rattle.chip.specs.Inner.Tables.{tabled};
-ghost use Rattle.structure.specs.Refusals.{Wrote};
-ghost use Rattle.writing.specs.File.{word, inputsFile, pinsFile, cellsFile, outputsFile, paddedFile};
+ghost use Rattle.chip.specs.Refusals.{Wrote};
+ghost use Rattle.chip.specs.File.{word, inputsFile, pinsFile, cellsFile, outputsFile, paddedFile};
 ghost use Rattle.writing.specs.Inner.Put.{Put};
+use chip::Counts;
+use chip::Kinds;
+use chip::Nets;
 use chip::wide8;
 
 // A number of two bytes, low byte first.
@@ -34,7 +37,7 @@ fn put_inputs(out: &mut [u8], b: usize) -> usize
 }
 
 // The nets of n pins, from pin `from` on.
-fn put_pins(nets: &[u16; 4096], from: usize, n: usize, out: &mut [u8], start: usize) -> usize
+fn put_pins(nets: &Nets, from: usize, n: usize, out: &mut [u8], start: usize) -> usize
     requires { ⌜ (from + n ≤ 4096) × (start + 2 * n ≤ length (now out)) ⌝ }
     ensures { λ r. ⌜ ((i c o : ℕ) (kinds counts : List ℕ) → Put (pinsFile (tabled i c o kinds counts (now (nets .entry))) from n) start (now (out .entry)) (now (out .exit)) r) ⌝ }
 {
@@ -46,7 +49,7 @@ fn put_pins(nets: &[u16; 4096], from: usize, n: usize, out: &mut [u8], start: us
 }
 
 // A cell: its kind, its pin count m, and its pins, of which p is the first.
-fn put_cell(nets: &[u16; 4096], kind: u8, m: u8, p: usize, out: &mut [u8], at: usize) -> usize
+fn put_cell(nets: &Nets, kind: u8, m: u8, p: usize, out: &mut [u8], at: usize) -> usize
     requires { ⌜ (p + m ≤ 4096) × (at + 2 + 2 * m ≤ length (now out)) ⌝ }
     ensures { λ r. ⌜ ((i c o : ℕ) (kinds counts : List ℕ) → Put (kind ∷ m ∷ pinsFile (tabled i c o kinds counts (now (nets .entry))) p m) at (now (out .entry)) (now (out .exit)) r) ⌝ }
 {
@@ -58,9 +61,9 @@ fn put_cell(nets: &[u16; 4096], kind: u8, m: u8, p: usize, out: &mut [u8], at: u
 // The cells.
 fn put_cells(
     c: usize,
-    kinds: &[u8; 1024],
-    counts: &[u8; 1024],
-    nets: &[u16; 4096],
+    kinds: &Kinds,
+    counts: &Counts,
+    nets: &Nets,
     out: &mut [u8],
     start: usize,
 ) -> usize
@@ -79,14 +82,7 @@ fn put_cells(
 }
 
 // The outputs, of which `first` is the first pin: output z has pad b + 1 + z.
-fn put_outputs(
-    o: usize,
-    nets: &[u16; 4096],
-    b: usize,
-    first: usize,
-    out: &mut [u8],
-    start: usize,
-) -> usize
+fn put_outputs(o: usize, nets: &Nets, b: usize, first: usize, out: &mut [u8], start: usize) -> usize
     requires { ⌜ (first + o ≤ 4096) × (o ≤ 64) × (b ≤ 64) ⌝ }
     requires { ⌜ start + 2 + 3 * o ≤ length (now out) ⌝ }
     ensures { λ r. ⌜ ((i c : ℕ) (kinds counts : List ℕ) → first ≡ sumBelow (λ j. getD counts j 0) c → Put (word o ++ outputsFile (tabled i c o kinds counts (now (nets .entry))) (λ z. b + 1 + z) o) start (now (out .entry)) (now (out .exit)) r) ⌝ }
@@ -105,9 +101,9 @@ pub fn put_file(
     c: usize,
     o: usize,
     n: usize,
-    kinds: &[u8; 1024],
-    counts: &[u8; 1024],
-    nets: &[u16; 4096],
+    kinds: &Kinds,
+    counts: &Counts,
+    nets: &Nets,
     out: &mut [u8],
 )
     requires { ⌜ InLimits (tabled i c o (now kinds) (now counts) (now nets)) ⌝ }

@@ -3,10 +3,10 @@ use Rattle.calls.proofs.run.Statement.{statement}
 use Rattle.calls.proofs.run.Tie as tie
 
 abbrev Inv-loop : tie.InvT-loop
-Inv-loop file₀ text₀ lent₀ line₀ used₀ turns₀ file text lent line used turns = Unit {0}
+Inv-loop file₀ text₀ lent₀ line₀ turns₀ file text lent line turns = Unit {0}
 
 abbrev μ-loop : tie.MeasureT-loop
-μ-loop file₀ text₀ lent₀ line₀ used₀ turns₀ file text lent line used turns = turns
+μ-loop file₀ text₀ lent₀ line₀ turns₀ file text lent line turns = turns
 
 loop-holds : tie.Need-loop-holds Inv-loop μ-loop
 loop-holds c = search needs
@@ -23,11 +23,11 @@ loop-less c = search needs
 loop-again : tie.Need-loop-again Inv-loop μ-loop
 loop-again c = search needs
 
-finish-requires : tie.Need-finish-requires Inv-loop μ-loop
-finish-requires c κs = search needs
-
 returns : tie.Need-returns Inv-loop μ-loop
 returns c = search needs
+
+returns-2 : tie.Need-returns-2 Inv-loop μ-loop
+returns-2 c = search needs
 
 pub run-spec : {M : Type 1} → statement M
 run-spec =
@@ -40,5 +40,5 @@ run-spec =
     sub-turns
     loop-less
     loop-again
-    finish-requires
-    returns)
+    returns
+    returns-2)

@@ -1,21 +1,24 @@
 -- The search before a play is set: the answer, and what is left to do for it.
-use Prim.Native.Nat.{ℕ, suc, _*_, _^_, _≤_, _<_}
+use Prim.Native.Nat.{ℕ, suc, _+_, _*_, _^_, _≤_, _<_}
 use mathlib.Core.Path.{_≡_}
 use mathlib.Core.Logic.{_≢_}
 use mathlib.Core.List.{List}
 use lib.ListN.{length}
 use Rattle.chip.specs.Netlist.{Netlist}
+use Rattle.chip.specs.Inner.Tables.{tabled}
 use Rattle.chip.specs.Class.{Lowest, blocks}
+use Rattle.chip.specs.Replies.{SearchOn}
 use Rattle.chip.specs.declared.Fault.{Fault}
-use Rattle.fields.specs.Got.{got}
-use Rattle.fields.specs.Format.{Parsed}
-use Rattle.netlist.specs.Chip.{chipOf}
-use Rattle.structure.specs.Opens.{Opens}
+use Rattle.chip.specs.declared.Searched.{Searched}
+use Rattle.chip.specs.declared.Searched.the-variants.{Found, Untestable, Refused}
+use Rattle.netlist.specs.declared.Sizes.{Sizes}
 use Rattle.structure.specs.declared.Shape.{Shape}
-use Rattle.walk.specs.Walk.{widthOf, Played}
-use Rattle.search.specs.Reply.{SearchReply}
-use Rattle.search.specs.declared.Searched.{Searched}
-use Rattle.search.specs.declared.Searched.the-variants.{Found, Untestable, Refused}
+use Rattle.opening.specs.Open.{netlistOf}
+use Rattle.opening.specs.declared.Chip.{Chip}
+use Rattle.walk.specs.Walk.{Ready, widthOf, Played}
+use Rattle.verdicts.specs.Verdicts.{Judged}
+use Rattle.spots.specs.Spots.{Spots}
+use Rattle.search.specs.declared.Findings.{Findings}
 
 -- pattern m for output z can be set in a buffer with so much room
 pub record Settable (N : Netlist) (s : Shape) (reached : List ℕ) (room z m : ℕ) : Type 0 where
@@ -31,8 +34,24 @@ Left N d reached entry exit (Found z m k) = (low : ℕ → ℕ) → Lowest N low
 Left N d reached entry exit (Untestable k) = exit ≡ entry
 Left N d reached entry exit (Refused n p) = exit ≡ entry
 
--- with that done, the answer is the search's reply for each file that opens as this chip
+-- with that done, the answer is the search's reply
 pub record Answered (N : Netlist) (s : Shape) (fault : Fault) (reached : List ℕ) (room : ℕ) (r : Searched) : Type 0 where
   pub found : (z m k : ℕ) → r ≡ Found z m k → Settable N s reached room z m
-  pub replies : (file : List ℕ) (x : Parsed) → Opens file (got x) → N ≡ chipOf x → (entry exit : List ℕ) → length entry ≡ room → Left N (s .depth) reached entry exit r
-      → SearchReply file fault entry r exit
+  pub replies : (entry exit : List ℕ) → length entry ≡ room → Left N (s .depth) reached entry exit r → SearchOn N fault entry (r, exit)
+
+-- fault f of a chip of class 2 or 3 with these tables was looked for
+pub record Looked (z : Sizes) (s : Shape) (f wides : ℕ) (sites widths best pat kinds counts nets reached : List ℕ) : Type 0 where
+  pub firsts : List ℕ
+  pub order : List ℕ
+  pub branches : List ℕ
+  pub block : List ℕ
+  pub cone : List ℕ
+  pub ready : Ready (tabled (z .inputs) (z .cells) (z .outputs) kinds counts nets) (z .pins) s firsts order branches block reached cone
+  pub even : s .class ≢ 1
+  pub judged : Judged (z .inputs) (z .cells) (z .outputs) (z .pins) (s .blocks) f wides kinds counts nets reached sites widths best pat
+
+-- all faults of an open chip were looked for, and the places of its patterns' variables were found
+pub record Surveyed (t : Chip) (r : Findings) : Type 0 where
+  pub looked : (f : ℕ) → f < 2 * (t .sizes .inputs + t .sizes .cells + t .sizes .pins)
+      → Looked (t .sizes) (t .shape) f (r .wides) (r .sites) (r .widths) (r .best) (r .pat) (t .kinds) (t .counts) (t .nets) (t .reached)
+  pub places : Spots (netlistOf t) (t .shape .depth) (t .reached) (r .spots)

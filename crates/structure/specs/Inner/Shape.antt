@@ -9,12 +9,10 @@ use Rattle.chip.specs.Transformed.{flat}
 use Rattle.chip.specs.Class.{LoopFree, Branch, Depth, Lowest, Prepared, blocks}
 use Rattle.chip.specs.Clocks.{BlockReaches}
 use Rattle.order.specs.Order.{Ordered}
-use Rattle.loops.specs.Loops.{LowestLoop}
 use Rattle.levels.specs.Levels.{Mask, MasksBefore, AnyReach}
 use Rattle.blocks.specs.Labels.{LevelJoined, BlockTable}
 use Rattle.balance.specs.Balance.{SeenMasks, LowestConflict, LowestUneven}
-use Rattle.structure.specs.Opens.{Deep}
-use Rattle.structure.specs.Refusals.{When11}
+use Rattle.chip.specs.Refusals.{When9, When10, When11}
 use Rattle.structure.specs.declared.Shape.{Shape}
 use Rattle.structure.specs.declared.Depths.{Depths}
 use Rattle.structure.specs.declared.Depths.the-variants.{Is, Over}
@@ -27,11 +25,6 @@ pub record Deeper (N : Netlist) (e : ℕ) (masks : List ℕ) (low low′ : ℕ �
   pub joined : LevelJoined N e low low′
   pub reached : Mask (N .outs) outs (AnyReach N e)
 
--- z is the lowest output that is too deep
-pub record LowestDeep (N : Netlist) (z : ℕ) : Type 0 where
-  pub deep : Deep N z
-  pub none-below : (y : ℕ) → y < z → ¬ Deep N y
-
 -- the depth with the blocks' lowest pins, and the lowest input that reaches an output with two depths; or the lowest output that is too deep
 pub record DepthFound (N : Netlist) (low : ℕ → ℕ) (d : ℕ) : Type 0 where
   pub depth : Depth N d
@@ -40,7 +33,7 @@ pub record DepthFound (N : Netlist) (low : ℕ → ℕ) (d : ℕ) : Type 0 where
 
 abbrev pub DepthIs : Netlist → List ℕ → (ℕ → ℕ) → Depths → Type 0
 DepthIs N branches low (Is m) = DepthFound N low (m .depth) × LowestUneven N branches (m .input)
-DepthIs N branches low (Over z) = LowestDeep N z
+DepthIs N branches low (Over z) = When10 N z
 
 -- the table has the kinds without flip-flops
 pub record FlatKinds (kinds gates : List ℕ) : Type 0 where
@@ -80,6 +73,6 @@ pub record Shaped (N : Netlist) (firsts order branches block reached : List ℕ)
   pub place : s .class ≡ 1 → When11 N (s .place)
 
 abbrev pub FoundIs : Netlist → List ℕ → List ℕ → List ℕ → List ℕ → List ℕ → Found → Type 0
-FoundIs N firsts order branches block reached (Looped n) = LowestLoop N n
-FoundIs N firsts order branches block reached (TooDeep z) = LoopFree N × LowestDeep N z
+FoundIs N firsts order branches block reached (Looped n) = When9 N n
+FoundIs N firsts order branches block reached (TooDeep z) = LoopFree N × When10 N z
 FoundIs N firsts order branches block reached (Chip s) = Shaped N firsts order branches block reached s

@@ -3,9 +3,9 @@ use mathlib.Core.Path.{refl, ap, _∙_}
 use native.Mathlib.Omega.{arith}
 use borrow.Author.Needs.{needs}
 use lib.ListN.{getD}
-use Rattle.chip.specs.Inner.Tables.{tabled}
 use Rattle.chip.specs.Class.{blocks}
 use Rattle.chip.specs.Transformed.{netFor}
+use Rattle.chip.specs.Inner.Tables.{tabled}
 use Rattle.transform.proofs.New.{branch-block, pad-net, cell-net}
 use Rattle.transform.proofs.new_net.Statement.{statement}
 use Rattle.transform.proofs.new_net.Tie as tie

@@ -1,13 +1,18 @@
-use Prim.Native.Nat.{ℕ, _+_, _*_, _≤_}
-use mathlib.Core.Path.{_≡_, refl}
+use Prim.Native.Nat.{ℕ, _≤_}
+use mathlib.Core.Path.{refl}
+use mathlib.Core.List.{List}
 use native.Mathlib.Omega.{arith}
-use lib.ListN.{length, length-replicate}
+use lib.ListN.{length-replicate}
 use Rattle.chip.specs.Netlist.{Netlist}
-use Rattle.chip.specs.Class.{blocks}
+use Rattle.chip.specs.Class.{Lowest, blocks}
+use Rattle.chip.specs.Refusals.{refuses, goes-on}
 use Rattle.chip.specs.Inner.Tables.{tabled}
-use Rattle.transform.specs.File.{transformedFile}
-use Rattle.transform.specs.Reply.{many-blocks, many-cells, many-pins, too-short, written}
-use Rattle.transform.proofs.Filled.{all-zero, copied-of, fits, circuit-long}
+use Rattle.blocks.specs.Labels.{Numbered}
+use Rattle.copies.specs.Inner.Marks.{Copies}
+use Rattle.transform.specs.Inner.New.{Totalled}
+use Rattle.transform.specs.declared.Totals.{Totals}
+use Rattle.transform.proofs.Answers.{writable-on, writes-on}
+use Rattle.transform.proofs.Filled.{all-zero, fits, circuit-long}
 use borrow.Author.Needs.{needs}
 use Rattle.transform.proofs.put_chip.Statement.{statement}
 use Rattle.transform.proofs.put_chip.Tie as tie
@@ -16,7 +21,7 @@ abbrev net-of : tie.Start → Netlist
 net-of s = tabled (s .args .i) (s .args .c) (s .args .o) (s .args .kinds .now) (s .args .counts .now) (s .args .nets .now)
 
 returns : tie.Need-returns
-returns c low W D = rw (D .count-is) (many-blocks (omega (arith, c .if1 .taken, D .count-is)))
+returns c low W D = refuses (record { there = D .count-is; holds = omega (arith, c .if1 .taken, D .count-is) })
 
 slice-aggregate-find-copies : tie.Need-slice-aggregate-find-copies
 slice-aggregate-find-copies c = search needs
@@ -39,16 +44,50 @@ add-if2 c = search needs
 
 returns-2 : tie.Need-returns-2
 returns-2 c low W D =
-    let C = c .before .before .before .find-copies .ensures .1 low W D in
-    many-cells (omega (arith, c .before .before .before .before .before .before .before .if1 .left, D .count-is)) (omega (arith, C .count-is, c .if2 .taken))
+    let f = c .before .before .before in
+    let C = f .find-copies .ensures .1 low W D in
+    goes-on (λ p w. omega (arith, f .before .before .before .before .if1 .left, D .count-is, w .holds)) (refuses (record { there = refl; holds = omega (arith, C .count-is, c .if2 .taken) }))
 
 add-if3 : tie.Need-add-if3
 add-if3 c = search needs
 
 returns-3 : tie.Need-returns-3
 returns-3 c low W D =
-    let C = c .before .before .before .before .find-copies .ensures .1 low W D in
-    many-pins (omega (arith, c .before .before .before .before .before .before .before .before .if1 .left, D .count-is)) (omega (arith, C .count-is, c .before .if2 .left)) (omega (arith, C .count-is, c .if3 .taken, c .before .before .before .before .before .before .before .before .before .before .pre .1 .1 .1 .1 .0))
+    let f = c .before .before .before .before in
+    let s = f .before .before .before .before .before .before in
+    let C = f .find-copies .ensures .1 low W D in
+    goes-on (λ p w. omega (arith, f .before .before .before .before .if1 .left, D .count-is, w .holds))
+    (goes-on (λ p w. omega (arith, C .count-is, c .before .if2 .left, w .holds)) (refuses (record { there = refl; holds = omega (arith, C .count-is, c .if3 .taken, s .pre .1 .1 .1 .1 .0) })))
+
+-- behind the guards the copies are those that a file can hold
+abbrev start : tie.Else3 → tie.Start
+start c = c .before .before .before .before .before .before .before .before .before .before
+
+abbrev totals : tie.Else3 → Totals
+totals c =
+    let a = start c .args in
+    record { inputs = a .i; cells = a .c; outputs = a .o; pins = a .n; blocks = a .b; copies = c .before .before .before .before .find-copies .result }
+
+few-copies : (c : tie.Else3) {low : ℕ → ℕ} {lowest marks numbers : List ℕ}
+    → Lowest (net-of (start c)) low → Numbered (net-of (start c)) low (start c .args .block .now) (start c .args .b)
+    → Copies (net-of (start c)) (blocks (net-of (start c)) low) lowest marks numbers (c .before .before .before .before .find-copies .result)
+    → Totalled (totals c) (start c .args .kinds .now) (start c .args .counts .now) (start c .args .nets .now) low (start c .args .branches .now) (start c .args .block .now) lowest marks numbers
+few-copies c W D C =
+    let h = start c .pre in
+    record {
+      pins = h .1 .1 .1 .1 .0;
+      copied = record {
+        limits = h .0;
+        loop-free = h .1 .0;
+        least = W;
+        branch-table = h .1 .1 .1 .0;
+        numbered = D;
+        copies-are = C;
+        few-blocks = omega (arith, c .before .before .before .before .before .before .before .before .if1 .left);
+        few-cells = omega (arith, c .before .if2 .left);
+        few-pins = omega (arith, c .if3 .left, h .1 .1 .1 .1 .0);
+      };
+    }
 
 add-length : tie.Need-add-length
 add-length c = search needs
@@ -76,11 +115,9 @@ add-length-6 c = search needs
 
 returns-4 : tie.Need-returns-4
 returns-4 c low W D =
-    let s = c .before .before .before .before .before .before .before .before .before .before .before in
-    let K = copied-of (net-of s) (s .pre .0) (s .pre .1 .0) W (s .args .branches .now) (s .pre .1 .1 .1 .0) D _ _ _ _ (c .before .before .before .before .before .find-copies .ensures .1 low W D) (omega (arith, c .before .before .before .before .before .before .before .before .before .if1 .left)) (omega (arith, c .before .before .if2 .left)) (omega (arith, c .before .if3 .left, s .pre .1 .1 .1 .1 .0)) in
-    let e = circuit-long (net-of s) low (s .args .b) _ _ _ _ _ _ K in
-    let q : 6 + s .args .b + 2 * (s .args .c + c .before .before .before .before .before .find-copies .result) + 2 * (s .args .n + c .before .before .before .before .before .find-copies .result) + s .args .o ≡ length (transformedFile (net-of s) (blocks (net-of s) low)) = omega (arith, e, s .pre .1 .1 .1 .1 .0) in
-    rw q (too-short (fits (net-of s) low (s .args .b) _ _ _ _ _ _ K) (omega (arith, q, c .if4 .taken)))
+    let g = c .before in
+    let T = few-copies g W D (g .before .before .before .before .find-copies .ensures .1 low W D) in
+    writable-on _ _ _ (fits T) (refuses (record { there = circuit-long T; holds = omega (arith, circuit-long T, c .if4 .taken) }))
 
 slice-aggregate-put-tables : tie.Need-slice-aggregate-put-tables
 slice-aggregate-put-tables c = search needs
@@ -90,22 +127,21 @@ slice-aggregate-put-tables-2 c = search needs
 
 put-tables-requires : tie.Need-put-tables-requires
 put-tables-requires c κs =
-    let s = c .before .before .before .before .before .before .before .before .before .before .before .before .before .before .before in
-    let h = s .pre in
+    let e = c .before .before .before .before in
+    let g = e .before in
+    let h = start g .pre in
     let (low, W, D) = h .1 .1 .1 .1 .1 in
-    (h .1 .1 .0, (h .1 .1 .1 .1 .0, ((low, copied-of (net-of s) (s .pre .0) (s .pre .1 .0) W (s .args .branches .now) (s .pre .1 .1 .1 .0) D _ _ _ _ (c .before .before .before .before .before .before .before .before .before .find-copies .ensures .1 low W D) (omega (arith, c .before .before .before .before .before .before .before .before .before .before .before .before .before .if1 .left)) (omega (arith, c .before .before .before .before .before .before .if2 .left)) (omega (arith, c .before .before .before .before .before .if3 .left, s .pre .1 .1 .1 .1 .0))), omega (arith, c .before .before .before .before .if4 .left))))
+    (h .1 .1 .0, ((low, few-copies g W D (g .before .before .before .before .find-copies .ensures .1 low W D)), omega (arith, e .if4 .left)))
 
 same-length : tie.Need-same-length
 same-length c = search needs
 
 returns-5 : tie.Need-returns-5
 returns-5 c low W D =
-    let s = c .before .before .before .before .before .before .before .before .before .before .before .before .before .before .before .before .before .before in
-    let m = c .before .before .before .before .before .before .before .before .before .before .before .before .find-copies .result in
-    let K = copied-of (net-of s) (s .pre .0) (s .pre .1 .0) W (s .args .branches .now) (s .pre .1 .1 .1 .0) D _ _ _ _ (c .before .before .before .before .before .before .before .before .before .before .before .before .find-copies .ensures .1 low W D) (omega (arith, c .before .before .before .before .before .before .before .before .before .before .before .before .before .before .before .before .if1 .left)) (omega (arith, c .before .before .before .before .before .before .before .before .before .if2 .left)) (omega (arith, c .before .before .before .before .before .before .before .before .if3 .left, s .pre .1 .1 .1 .1 .0)) in
-    let e = circuit-long (net-of s) low (s .args .b) _ _ _ _ _ _ K in
-    let q : 6 + s .args .b + 2 * (s .args .c + m) + 2 * (s .args .n + m) + s .args .o ≡ length (transformedFile (net-of s) (blocks (net-of s) low)) = omega (arith, e, s .pre .1 .1 .1 .1 .0) in
-    rw q (written (fits (net-of s) low (s .args .b) _ _ _ _ _ _ K) (c .before .before .put-tables .ensures low K))
+    let a = c .before .before in
+    let g = a .before .before .before .before .before .before in
+    let T = few-copies g W D (g .before .before .before .before .find-copies .ensures .1 low W D) in
+    rw (circuit-long T) (writes-on _ _ _ (fits T) (a .put-tables .ensures low T))
 
 pub put-chip-spec : {M : Type 1} → statement M
 put-chip-spec =

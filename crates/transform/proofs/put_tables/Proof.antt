@@ -1,10 +1,8 @@
-use Prim.Native.Nat.{_-_}
+use Prim.Native.Nat.{_+_, _-_}
 use mathlib.Core.Path.{_≡_, sym}
 use native.Mathlib.Omega.{arith}
-use Rattle.chip.specs.Netlist.{Netlist, outPin}
-use Rattle.chip.specs.Inner.Tables.{tabled}
-use Rattle.transform.proofs.Filled.{filled-limits, filled-pins, filled-file}
 use borrow.Author.Needs.{needs}
+use Rattle.transform.proofs.Filled.{filled}
 use Rattle.transform.proofs.put_tables.Statement.{statement}
 use Rattle.transform.proofs.put_tables.Tie as tie
 
@@ -32,54 +30,46 @@ old-nets-requires c κs = search needs
 slice-aggregate-copy-nets : tie.Need-slice-aggregate-copy-nets
 slice-aggregate-copy-nets c = search needs
 
-abbrev net-of : tie.Start → Netlist
-net-of s = tabled (s .args .i) (s .args .c) (s .args .o) (s .args .kinds .now) (s .args .counts .now) (s .args .nets .now)
-
 copy-nets-requires : tie.Need-copy-nets-requires
-copy-nets-requires c κs =
-    let h = c .before .before .before .before .before .before .before .before .before .before .before .before .pre in
-    (h .0, (omega (arith, h .1 .0), (h .1 .1 .0, c .before .before .old-nets .ensures .0)))
+copy-nets-requires c κs = search needs
 
 add-put-file : tie.Need-add-put-file
 add-put-file c =
-    let (_, K) = c .before .before .before .before .before .before .before .before .before .before .before .before .before .before .pre .1 .1 .0 in
-    omega (arith, K .few-cells)
+    let n = c .before .before .before .before .before .before .before .before in
+    let (_, T) = n .before .before .before .before .before .before .pre .1 .0 in
+    omega (arith, T .copied .few-cells)
 
 add-put-file-2 : tie.Need-add-put-file-2
 add-put-file-2 c =
-    let h = c .before .before .before .before .before .before .before .before .before .before .before .before .before .before .pre in
-    let (_, K) = h .1 .1 .0 in
-    omega (arith, K .few-pins, h .1 .0)
+    let n = c .before .before .before .before .before .before .before .before in
+    let (_, T) = n .before .before .before .before .before .before .pre .1 .0 in
+    omega (arith, T .pins, T .copied .few-pins)
 
 put-file-requires : tie.Need-put-file-requires
 put-file-requires c κs =
-    let s = c .before .before .before .before .before .before .before .before .before .before .before .before .before .before .before .before .before .before in
-    let a = s .args in
-    let h = s .pre in
-    let (low, K) = h .1 .1 .0 in
-    let F = c .before .before .before .before .before .before .before .before .before .before .before .before .new-cells .ensures in
-    let O = c .before .before .before .before .before .before .before .before .old-nets .ensures .1 low K in
-    let (D, U) = c .before .before .before .before .before .copy-nets .ensures in
-    let first : a .n - a .o ≡ outPin (net-of s) 0 = omega (arith, h .1 .0) in
-    let L = filled-limits (a .i) (a .c) (a .o) (a .kinds .now) (a .counts .now) (a .nets .now) low (a .b) (a .branches .now) (a .block .now) (a .lowest .now) (a .marks .now) (a .numbers .now) (a .m) K _ _ _ _ (a .n) (a .n - a .o) (h .1 .0) first F O (D low K) U in
-    let P = filled-pins (a .i) (a .c) (a .o) (a .kinds .now) (a .counts .now) (a .nets .now) low (a .b) (a .branches .now) (a .block .now) (a .lowest .now) (a .marks .now) (a .numbers .now) (a .m) K _ _ _ _ (a .n) (a .n - a .o) (h .1 .0) first F O (D low K) U in
-    (L, (omega (arith, P, h .1 .0), h .1 .1 .1))
+    let k = c .before .before .before .before .before in
+    let o = k .before .before .before in
+    let n = o .before .before .before .before in
+    let s = n .before .before .before .before .before .before in
+    let (low, T) = s .pre .1 .0 in
+    let (D, U) = k .copy-nets .ensures in
+    let start : s .args .t .pins - s .args .t .outputs + s .args .t .outputs ≡ s .args .t .pins = omega (arith, T .pins) in
+    let M = filled T start (n .new-cells .ensures) (o .old-nets .ensures .1 _ _ low T) (D _ _ low _ _ _ (s .pre .0) T) U in
+    (M .limits, (M .pins, s .pre .1 .1))
 
 same-length : tie.Need-same-length
 same-length c = search needs
 
 returns : tie.Need-returns
-returns c =
-    let s = c .before .before .before .before .before .before .before .before .before .before .before .before .before .before .before .before .before .before .before .before .before in
-    let a = s .args in
-    let h = s .pre in
-    let F = c .before .before .before .before .before .before .before .before .before .before .before .before .before .before .before .new-cells .ensures in
-    let (D, U) = c .before .before .before .before .before .before .before .before .copy-nets .ensures in
-    let first : a .n - a .o ≡ outPin (net-of s) 0 = omega (arith, h .1 .0) in
-    λ low K.
-    let O = c .before .before .before .before .before .before .before .before .before .before .before .old-nets .ensures .1 low K in
-    let W = c .before .before .put-file .ensures in
-    rw (sym (filled-file (a .i) (a .c) (a .o) (a .kinds .now) (a .counts .now) (a .nets .now) low (a .b) (a .branches .now) (a .block .now) (a .lowest .now) (a .marks .now) (a .numbers .now) (a .m) K _ _ _ _ (a .n) (a .n - a .o) (h .1 .0) first F O (D low K) U)) W
+returns c low T =
+    let k = c .before .before .before .before .before .before .before .before in
+    let o = k .before .before .before in
+    let n = o .before .before .before .before in
+    let s = n .before .before .before .before .before .before in
+    let (D, U) = k .copy-nets .ensures in
+    let start : s .args .t .pins - s .args .t .outputs + s .args .t .outputs ≡ s .args .t .pins = omega (arith, T .pins) in
+    let M = filled T start (n .new-cells .ensures) (o .old-nets .ensures .1 _ _ low T) (D _ _ low _ _ _ (s .pre .0) T) U in
+    rw (sym (M .file)) (c .before .before .put-file .ensures)
 
 pub put-tables-spec : {M : Type 1} → statement M
 put-tables-spec =

@@ -1,42 +1,41 @@
 use borrow.Author.Needs.{needs}
-use Rattle.netlist.proofs.Use.{holds}
-use Rattle.structure.proofs.Opening.{opens-unread, tables-limits, tables-pins}
-use Rattle.transform.specs.Reply.{refuses}
+use Rattle.chip.specs.Refusals.{unopened, opened}
+use Rattle.opening.proofs.Answers.{is-refused, is-open}
 use Rattle.transform.proofs.transform.Statement.{statement}
 use Rattle.transform.proofs.transform.Tie as tie
 
-read-requires : tie.Need-read-requires
-read-requires c κs = search needs
+open-requires : tie.Need-open-requires
+open-requires c κs = search needs
 
-enum-known-reading : tie.Need-enum-known-reading
-enum-known-reading c = search needs
+enum-known-opening : tie.Need-enum-known-opening
+enum-known-opening c = search needs
+
+enum-told : tie.Need-enum-told
+enum-told c = search needs
+
+transform-on-requires : tie.Need-transform-on-requires
+transform-on-requires c κs = is-open (c .before .before .before .open .ensures) (c .before .enum-told .given .1) .1
 
 returns : tie.Need-returns
-returns c = refuses (opens-unread _ _ _ _ (c .before .before .before .read .ensures) (c .before .reading .given .1))
-
-enum-known-reading-2 : tie.Need-enum-known-reading-2
-enum-known-reading-2 c = search needs
-
-transform-tables-requires : tie.Need-transform-tables-requires
-transform-tables-requires c κs =
-    let h = holds _ _ _ (c .before .before .before .before .before .before .before .before .before .before .read .ensures) (c .before .before .before .before .before .before .before .before .reading2 .given .1) in
-    (tables-limits _ _ _ h, tables-pins _ _ _ h)
+returns c = unopened (is-refused (c .before .before .before .open .ensures) (c .before .opening .given .1))
 
 same-length : tie.Need-same-length
 same-length c = search needs
 
 returns-2 : tie.Need-returns-2
 returns-2 c =
-    c .before .before .transform-tables .ensures _ _ _ (holds _ _ _ (c .before .before .before .before .before .before .before .before .before .before .before .before .before .read .ensures) (c .before .before .before .before .before .before .before .before .before .before .before .reading2 .given .1))
+    let a = c .before .before in
+    let e = a .before .before in
+    opened (is-open (e .before .before .open .ensures) (e .enum-told .given .1) .0) (a .transform-on .ensures)
 
 pub transform-spec : {M : Type 1} → statement M
 transform-spec =
     tie.close
     (tie.spec
-    read-requires
-    enum-known-reading
+    open-requires
+    enum-known-opening
+    enum-told
+    transform-on-requires
     returns
-    enum-known-reading-2
-    transform-tables-requires
     same-length
     returns-2)

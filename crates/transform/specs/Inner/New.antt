@@ -6,11 +6,12 @@ use mathlib.Core.List.{List}
 use lib.Dec.{ltb}
 use lib.ListN.{length, getD}
 use Rattle.chip.specs.Netlist.{Netlist, InLimits, firstPin, outPin, allPins}
-use Rattle.chip.specs.Inner.Tables.{BranchTable}
 use Rattle.chip.specs.Class.{LoopFree, Lowest, Blocks, blocks}
 use Rattle.chip.specs.Transformed.{copied, copyAt, netFor, home, copies, openedNet, flat, transformed}
+use Rattle.chip.specs.Inner.Tables.{tabled, BranchTable}
 use Rattle.blocks.specs.Labels.{Numbered}
 use Rattle.copies.specs.Inner.Marks.{Copies}
+use Rattle.transform.specs.declared.Totals.{Totals}
 
 -- a netlist of b blocks with its m copies, which one file can hold
 pub record Copied (N : Netlist) (low : ℕ → ℕ) (b : ℕ) (branches block lowest marks numbers : List ℕ) (m : ℕ) : Type 0 where
@@ -23,6 +24,15 @@ pub record Copied (N : Netlist) (low : ℕ → ℕ) (b : ℕ) (branches block lo
   pub few-blocks : b ≤ 64
   pub few-cells : N .cells + m ≤ 1024
   pub few-pins : allPins N + m ≤ 4096
+
+-- the netlist that tables hold, with the totals
+abbrev pub netOf : Totals → List ℕ → List ℕ → List ℕ → Netlist
+netOf t kinds counts nets = tabled (t .inputs) (t .cells) (t .outputs) kinds counts nets
+
+-- the same with its copies
+pub record Totalled (t : Totals) (kinds counts nets : List ℕ) (low : ℕ → ℕ) (branches block lowest marks numbers : List ℕ) : Type 0 where
+  pub pins : t .pins ≡ allPins (netOf t kinds counts nets)
+  pub copied : Copied (netOf t kinds counts nets) low (t .blocks) branches block lowest marks numbers (t .copies)
 
 -- the numbers of copies that the tables have for b blocks and c cells are those of cells that a file can hold
 pub record Room (i c b : ℕ) (marks numbers : List ℕ) : Type 0 where

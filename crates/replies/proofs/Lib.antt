@@ -1,0 +1,3 @@
+pub mod Guards
+pub mod Opening
+pub mod Unique

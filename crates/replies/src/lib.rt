@@ -1,0 +1,1 @@
+// Why two replies that a call's contract allows are equal. Lemmas; there is no code.
