@@ -2,74 +2,41 @@
 
 import random
 
-BUF, NOT, AND, OR, NAND, NOR, XOR, XNOR, DFF, DFFN = range(10)
+from simulator.generators import Draft
+from simulator.reading import AND, BUF, DFF, DFFN, NAND, NOR, NOT, OR, XNOR, XOR
 
 
-def word(number):
-    return number.to_bytes(2, "little")
-
-
-def file_of(inputs, cells, outputs):
-    """A netlist file with pads in order; cells are kind and nets, outputs are nets."""
-    parts = [word(inputs), bytes(range(1, inputs + 1)), word(len(cells))]
-    for kind, nets in cells:
-        parts += [bytes((kind, len(nets))), *map(word, nets)]
-    parts.append(word(len(outputs)))
-    for k, net in enumerate(outputs):
-        parts += [bytes((inputs + 1 + k,)), word(net)]
-    return b"".join(parts)
-
-
-class Net:
-    """Cells that are added one by one."""
-
-    def __init__(self, inputs):
-        self.inputs, self.cells = inputs, []
-
-    def add(self, kind, *nets):
-        self.cells.append((kind, list(nets)))
-        return self.inputs + len(self.cells) - 1
-
-    def chain(self, kind, length, net):
-        """So many cells of one pin one behind the other."""
-        for _ in range(length):
-            net = self.add(kind, net)
-        return net
-
-    def add_up(self, a, b, c):
-        """The sum and the carry of three nets."""
-        half = self.add(XOR, a, b)
-        return self.add(XOR, half, c), self.add(OR, self.add(AND, a, b), self.add(AND, half, c))
-
-    def file(self, outputs):
-        return file_of(self.inputs, self.cells, outputs)
+def add_up(net, a, b, c):
+    """The sum and the carry of three nets."""
+    half = net.cell(XOR, a, b)
+    return net.cell(XOR, half, c), net.cell(OR, net.cell(AND, a, b), net.cell(AND, half, c))
 
 
 def multiplier(buffers=0):
     """8 by 8 bits: pad buffers in a row, flip-flops at the inputs, after the partial products and at the outputs."""
-    net = Net(16)
+    net = Draft(16)
     pads = list(range(16))
     for _ in range(buffers):
-        pads = [net.add(BUF, pad) for pad in pads]
-    held = [net.add(DFF, pad) for pad in pads]
+        pads = [net.cell(BUF, pad) for pad in pads]
+    held = [net.cell(DFF, pad) for pad in pads]
     columns = [[] for _ in range(16)]
     for a in range(8):
         for b in range(8):
-            columns[a + b].append(net.add(DFF, net.add(AND, held[a], held[8 + b])))
+            columns[a + b].append(net.cell(DFF, net.cell(AND, held[a], held[8 + b])))
     outputs = []
     for k in range(16):
         column = columns[k]
         while len(column) > 1:
             if len(column) == 2:
                 a, b = column.pop(), column.pop()
-                total, carry = net.add(XOR, a, b), net.add(AND, a, b)
+                total, carry = net.cell(XOR, a, b), net.cell(AND, a, b)
             else:
-                total, carry = net.add_up(column.pop(), column.pop(), column.pop())
+                total, carry = add_up(net, column.pop(), column.pop(), column.pop())
             column.insert(0, total)
             if k < 15:
                 columns[k + 1].append(carry)
-        outputs.append(net.add(DFF, column[0]))
-    return net.file(outputs)
+        outputs.append(net.cell(DFF, column[0]))
+    return net.plain_file(outputs)
 
 
 def in_groups(seed, groups, inputs, stages, gates, most_pins, window):
@@ -79,7 +46,7 @@ def in_groups(seed, groups, inputs, stages, gates, most_pins, window):
     Each group has as many outputs as inputs; the smaller the window, the more faults are untestable.
     """
     rng = random.Random(seed)
-    net, outputs = Net(groups * inputs), []
+    net, outputs = Draft(groups * inputs), []
     for group in range(groups):
         front = list(range(group * inputs, (group + 1) * inputs))
         for stage in range(stages):
@@ -92,75 +59,75 @@ def in_groups(seed, groups, inputs, stages, gates, most_pins, window):
                     if x not in named:
                         named.append(x)
                 read.update(named)
-                nets.append(net.add(rng.choice((AND, OR, NAND, NOR, XOR, XNOR)), *named))
+                nets.append(net.cell(rng.choice((AND, OR, NAND, NOR, XOR, XNOR)), *named))
             last = sorted(nets, key=lambda x: (x in read, -x))[:inputs]
-            front = [net.add(rng.choice((DFF, DFF, DFF, DFFN)), x) for x in last] if stage < stages - 1 else last
+            front = [net.cell(rng.choice((DFF, DFF, DFF, DFFN)), x) for x in last] if stage < stages - 1 else last
         outputs += front
-    return net.file(outputs)
+    return net.plain_file(outputs)
 
 
 def redundant(seed, window):
     """1,024 cells, 4,096 pins: random gates over 16 inputs with any of the last nets, also twice; 64 outputs."""
     rng = random.Random(seed)
-    net, widths = Net(16), [2] * 1024
+    net, widths = Draft(16), [2] * 1024
     while sum(widths) < 4096 - 64:
         at = rng.randrange(1024)
         widths[at] = min(8, widths[at] + 1)
     for width in widths:
         nets = range(net.inputs + len(net.cells))[-window:]
-        net.add(rng.choice((AND, OR, NAND, NOR, XOR)), *rng.choices(nets, k=width))
-    return net.file(range(1024 + 16 - 64, 1024 + 16))
+        net.cell(rng.choice((AND, OR, NAND, NOR, XOR)), *rng.choices(nets, k=width))
+    return net.plain_file(range(1024 + 16 - 64, 1024 + 16))
 
 
 def pipeline():
     """255 flip-flops in a row; seven gates between them take in an input each, so that there are 8 blocks."""
-    net = Net(8)
-    last = net.chain(DFF, 31, 0)
+    net = Draft(8)
+    last = net.chain([DFF] * 31, 0)
     for k in range(1, 8):
-        last = net.chain(DFF, 32, net.add((XOR, AND, OR)[k % 3], last, k))
-    return net.file([last])
+        last = net.chain([DFF] * 32, net.cell((XOR, AND, OR)[k % 3], last, k))
+    return net.plain_file([last])
 
 
 def c17():
-    net = Net(5)
-    a, b = net.add(NAND, 0, 2), net.add(NAND, 2, 3)
-    c, d = net.add(NAND, 1, b), net.add(NAND, b, 4)
-    return net.file([net.add(NAND, a, c), net.add(NAND, c, d)])
+    net = Draft(5)
+    a, b = net.cell(NAND, 0, 2), net.cell(NAND, 2, 3)
+    c, d = net.cell(NAND, 1, b), net.cell(NAND, b, 4)
+    return net.plain_file([net.cell(NAND, a, c), net.cell(NAND, c, d)])
 
 
 def adder():
     """4 by 4 bits with a carry, flip-flops at the inputs and the outputs."""
-    net = Net(9)
-    held = [net.add(DFF, i) for i in range(9)]
+    net = Draft(9)
+    held = [net.cell(DFF, i) for i in range(9)]
     carry, outputs = held[8], []
     for k in range(4):
-        total, carry = net.add_up(held[k], held[4 + k], carry)
-        outputs.append(net.add(DFF, total))
-    return net.file(outputs + [net.add(DFF, carry)])
+        total, carry = add_up(net, held[k], held[4 + k], carry)
+        outputs.append(net.cell(DFF, total))
+    return net.plain_file(outputs + [net.cell(DFF, carry)])
 
 
 def decoder():
     """3 to 8 with three enables, two of them inverted."""
-    net = Net(6)
-    low = [net.add(NOT, i) for i in range(3)]
-    high = [net.add(NOT, x) for x in low]
-    enable = net.add(AND, net.add(NOT, 3), net.add(NOT, 4), 5)
-    return net.file([net.add(NAND, enable, *((high if k >> i & 1 else low)[i] for i in range(3))) for k in range(8)])
+    net = Draft(6)
+    low = [net.cell(NOT, i) for i in range(3)]
+    high = [net.cell(NOT, x) for x in low]
+    enable = net.cell(AND, net.cell(NOT, 3), net.cell(NOT, 4), 5)
+    return net.plain_file([net.cell(NAND, enable, *((high if k >> i & 1 else low)[i] for i in range(3))) for k in range(8)])
 
 
 def parity():
     """The parity of sixteen inputs."""
-    net, nets = Net(16), list(range(16))
+    net, nets = Draft(16), list(range(16))
     while len(nets) > 1:
-        nets = nets[2:] + [net.add(XOR, *nets[:2])]
-    return net.file(nets)
+        nets = nets[2:] + [net.cell(XOR, *nets[:2])]
+    return net.plain_file(nets)
 
 
 def two_depths():
     """An input and the same input a clock later, in class 2: differences of four bits, and whether there is one."""
-    net = Net(4)
-    changed = [net.add(XOR, i, net.add(DFF, i)) for i in range(4)]
-    return net.file(changed + [net.add(OR, *changed)])
+    net = Draft(4)
+    changed = [net.cell(XOR, i, net.cell(DFF, i)) for i in range(4)]
+    return net.plain_file(changed + [net.cell(OR, *changed)])
 
 
 CASES = {

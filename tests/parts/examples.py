@@ -7,7 +7,7 @@ from simulator.definition import calls as definition
 from simulator.faults import NET, all_faults
 from simulator.generators import Draft
 from simulator.modes import BY_DEFINITION, FIRST
-from simulator.reading import AND, BUF, DFF, NOT, OR, XOR, Netlist, read, write
+from simulator.reading import AND, BUF, DFF, NOT, OR, XOR, file_of, read
 from simulator.tally import Tally
 
 LISTING_FILE = bytes.fromhex("01 00 01 02 00 08 01 00 00 06 02 00 00 01 00 01 00 02 02 00")
@@ -29,13 +29,6 @@ p3/0 out 0 tries 2 play 1 0
 p3/1 out 0 tries 1 play 0 0
 """
 TRANSFORMED = "02 00 01 02 02 00 00 01 00 00 06 02 01 00 02 00 01 00 03 03 00".replace(" ", "")
-
-
-def file_of(inputs, cells, outputs):
-    """A file with pads in order; cells as (kind, net, net ...)."""
-    return write(Netlist(tuple(range(1, inputs + 1)), tuple(cell[0] for cell in cells),
-                         tuple(cell[1:] for cell in cells),
-                         tuple(range(inputs + 1, inputs + 1 + len(outputs))), tuple(outputs)))
 
 
 P5 = file_of(1, [], [0])
@@ -80,7 +73,7 @@ def cone_of(inputs):
     low = draft.cell(AND, *range(8))
     high = draft.cell(AND, *range(8, 16))
     top = draft.cell(OR, low, high, *range(16, inputs))
-    return file_of(inputs, [(kind, *nets) for kind, nets in zip(draft.kinds, draft.cells)], [top])
+    return draft.plain_file([top])
 
 
 def search(file, sort, number, stuck, room):

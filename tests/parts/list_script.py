@@ -5,10 +5,10 @@ import subprocess
 import tempfile
 from pathlib import Path
 
-from parts.examples import LISTING_FILE, chain_of, cone_of, file_of
+from parts.examples import LISTING_FILE, chain_of, cone_of
 from simulator import programs
 from simulator.modes import FIRST
-from simulator.reading import BUF, DFF, NOT, XOR
+from simulator.reading import BUF, DFF, NOT, XOR, file_of
 from simulator.tally import Tally
 from simulator.workbench import Workbench
 

@@ -2,7 +2,6 @@
 
 import random
 
-from parts.examples import file_of
 from parts.program_calls import compare
 from parts.program_listing import compare_listing
 from simulator import generators as g
@@ -12,7 +11,7 @@ from simulator.faults import NET
 from simulator.hits import LOOPS, hits
 from simulator.looped import largest_looped, looped
 from simulator.modes import BY_DEFINITION, FIRST
-from simulator.reading import AND, BUF, DFF, DFFN, NAND, NOT, OR, XOR
+from simulator.reading import AND, BUF, DFF, DFFN, NAND, NOT, OR, XOR, file_of
 from simulator.tally import Tally
 
 CODES = (CLASS, TRANSFORM, SET, READ_BACK, CHECK, SEARCH)

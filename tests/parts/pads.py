@@ -2,7 +2,6 @@
 
 import random
 
-from parts.examples import file_of
 from parts.laws import cut_out_alike
 from parts.program_calls import compare
 from parts.program_listing import compare_listing
@@ -16,7 +15,7 @@ from simulator.hits import hits, orders
 from simulator.modes import BY_DEFINITION, FIRST
 from simulator.pad_hits import COPIES, LIMITS, PADS
 from simulator.padded import beyond_the_limit, files_at_the_limits, padded
-from simulator.reading import AND, BUF, DFF, DFFN, NAND, NOT, OR, XOR, read
+from simulator.reading import AND, BUF, DFF, DFFN, NAND, NOT, OR, XOR, file_of, read
 from simulator.tally import Tally
 
 CODES = (CLASS, TRANSFORM, SET, READ_BACK, CHECK, SEARCH)
@@ -121,7 +120,7 @@ def many_dead(length, outputs, dead=0, gates=0):
     nots = [draft.cell(NOT, end) for _ in range(dead)]
     for _ in range(gates):
         draft.cell(XOR, *[nots[0]] * 8)
-    return file_of(1, [(kind, *nets) for kind, nets in zip(draft.kinds, draft.cells)], [end] * outputs)
+    return draft.plain_file([end] * outputs)
 
 
 # Files at the limits of writing: the room lent, and the line up to the buffer.

@@ -3,7 +3,7 @@
 from dataclasses import dataclass
 
 from simulator.reading import (AND, BUF, DFF, DFFN, MOST_CELLS, MOST_INPUTS, MOST_OUTPUTS, MOST_PINS, NAND, NOR,
-                               NOT, OR, XNOR, XOR, Netlist, write)
+                               NOT, OR, XNOR, XOR, Netlist, file_of, write)
 
 WIDE = (AND, OR, NAND, NOR, XOR, XNOR)
 STRAIGHT = (BUF, NOT)
@@ -48,6 +48,10 @@ class Draft:
     def shuffled(self, rng):
         """The same netlist with its cells in another order, so that cells name later nets."""
         return self.reordered(rng.sample(range(len(self.cells)), len(self.cells)))
+
+    def plain_file(self, outputs):
+        """The file with these outputs and with pads in order."""
+        return file_of(self.inputs, [(kind, *nets) for kind, nets in zip(self.kinds, self.cells)], outputs)
 
     def file(self, rng):
         pads = rng.sample(range(1, 256), self.inputs + len(self.outputs))

@@ -129,3 +129,9 @@ def write(netlist):
     for pad, net in zip(netlist.output_pads, netlist.outputs):
         parts.append(bytes((pad,)) + two_bytes(net))
     return b"".join(parts)
+
+
+def file_of(inputs, cells, outputs):
+    """A file with pads in order; cells as (kind, net, net ...), outputs as nets."""
+    return write(Netlist(tuple(range(1, inputs + 1)), tuple(cell[0] for cell in cells), tuple(tuple(cell[1:]) for cell in cells),
+                         tuple(range(inputs + 1, inputs + 1 + len(outputs))), tuple(outputs)))

@@ -38,7 +38,7 @@ use Rattle.cells.specs.Cells.{Good, Clear, Back}
 use Rattle.cells.proofs.Trying.{same-table}
 use Rattle.known.specs.Setting.{Shows, Setting, Long}
 use Rattle.known.proofs.Advance.{advance-none}
-use Rattle.alone.specs.Alone.{runLane, Went, VarPut, VarsPut, VarMarked, VarsMarked, Reading, InputRan, InputTried, Variables, InputStep}
+use Rattle.alone.specs.Alone.{runLane, Went, VarPut, VarsPut, VarMarked, VarsMarked, VariableReaders, InputRan, InputTried, Variables, InputStep}
 use Rattle.alone.proofs.Steps.{looked-kept, looked-advance}
 use Rattle.alone.proofs.Runs.{constant, start-of, rules-of}
 
@@ -100,7 +100,7 @@ module _ (x u : ℕ) (list input heads readers reach : List ℕ) where
 -- ---- the run
 
 module _ (c w f u : ℕ) (kinds counts firsts src order reach heads readers list input goods : List ℕ) (C : Chip c kinds counts firsts src order reach heads readers)
-    (R : Reading c w counts firsts src order heads readers list input) (G : Good c u kinds counts firsts src order reach goods) (blank acc vals₁ marks marks₁ : List ℕ)
+    (R : VariableReaders c w counts firsts src order heads readers list input) (G : Good c u kinds counts firsts src order reach goods) (blank acc vals₁ marks marks₁ : List ℕ)
     (A : Filled 0 16 (λ k. getD goods (16 * (1040 + f % 2) + k) 0) blank acc)
     (P : VarsPut w (f / 2) list input (λ k j. getD acc j 0) goods vals₁) (M : VarsMarked w (f / 2) u list input heads readers reach marks marks₁) (K : Clear marks) where
   -- a slot that is no variable of the input holds what it did

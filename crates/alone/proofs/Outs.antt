@@ -25,7 +25,7 @@ use Rattle.flip.proofs.Flips.{out-lane}
 use Rattle.faults.specs.Numbers.{faultNumber}
 use Rattle.bridge.proofs.Bridge.{lane}
 use Rattle.homes.specs.Homes.{Looked}
-use Rattle.known.specs.Setting.{Shows, Setting, Ready, Long}
+use Rattle.known.specs.Setting.{Shows, Setting, GoodRun, Long}
 use Rattle.alone.specs.Alone.{runLane, Went, Between, OutLooked, OutStep}
 use Rattle.alone.proofs.Steps.{looked-idle, looked-kept, looked-advance, went-both}
 use Rattle.alone.proofs.Runs.{constant, start-of, rules-of}
@@ -61,7 +61,7 @@ fault-is nets f p v e m =
 module _ (i c o n q g f z v : ℕ) (outs goods left best pat left′ best′ pat′ : List ℕ) (on : o ≤ n) (site : f / 2 ≡ i + c + n - o + z) (value : f % 2 ≡ v)
     (L : OutLooked f z v q g outs goods left best pat left′ best′ pat′) where
   module _ (kinds counts nets firsts order cone reach src : List ℕ) (low : ℕ → ℕ) (rel : ℕ → ℕ → Bool)
-      (S : Setting i c o kinds counts nets firsts order cone reach src outs low rel g q goods) (R : Ready c q g kinds counts firsts src order reach outs goods)
+      (S : Setting i c o kinds counts nets firsts order cone reach src outs low rel g q goods) (R : GoodRun c q g kinds counts firsts src order reach outs goods)
       (pins : n ≡ allPins (tabled i c o kinds counts nets)) where
     asked : (x : ℕ) → z < 64 → digit z g ≡ true → x < 1024
         → Shows i c o kinds counts nets low rel f z (64 * q + x) ↔ (runLane (getD outs z 0) (getD (L .ends) z 0) goods goods x ≡ true)

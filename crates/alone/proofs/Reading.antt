@@ -18,7 +18,7 @@ use Rattle.chip.proofs.Blocks.{branch, counted}
 use Rattle.blocks.specs.Labels.{BlockTable}
 use Rattle.flip.specs.Bed.{Bed}
 use Rattle.readers.specs.Readers.{keyOf, Built}
-use Rattle.alone.specs.Alone.{Reading, Variables}
+use Rattle.alone.specs.Alone.{VariableReaders, Variables}
 
 module _ (i c o n w g z : ℕ) (kinds counts branches nets firsts order cone block heads readers src list input : List ℕ) (low : ℕ → ℕ) (rel : ℕ → ℕ → Bool)
     (Q : Bed (tabled i c o kinds counts nets) low rel z firsts order cone src) (zl : z < 64) (zg : digit z g ≡ true) (E : BranchTable (tabled i c o kinds counts nets) branches)
@@ -50,7 +50,7 @@ module _ (i c o n w g z : ℕ) (kinds counts branches nets firsts order cone blo
           let s : getD src p 0 ≡ 1040 = Q .input-slot p h b ∙ ap (λ r. cond r (tally (rel z) (blocks (tabled i c o kinds counts nets) low .block p)) 1040) q in
           absurd (omega (arith, few))
 
-  pub reading-of : Reading c w counts firsts src order heads readers list input
+  pub reading-of : VariableReaders c w counts firsts src order heads readers list input
   reading-of =
       record {
         few = omega (arith, few);

@@ -13,7 +13,7 @@ use Rattle.chip.specs.Inner.Tables.{tabled}
 use Rattle.chip.specs.Search.{digit, width}
 use Rattle.events.specs.Events.{marked, Live, Obeys}
 use Rattle.homes.specs.Homes.{Looked}
-use Rattle.known.specs.Setting.{Shows, Setting, Advance, Ready, Kept}
+use Rattle.known.specs.Setting.{Shows, Setting, Advance, GoodRun, Kept}
 
 -- lane x of the difference of the good words at slot s and the words of a run at slot e
 abbrev pub runLane : ℕ → ℕ → List ℕ → List ℕ → ℕ → Bool
@@ -39,7 +39,7 @@ pub record OutLooked (f z v q g : ℕ) (outs goods left best pat left′ best′
 -- fault f, a stuck pin of an output, goes on in every chip with these words, if it is left to its output only
 pub record OutStep (i c o n q g : ℕ) (outs goods : List ℕ) (f left best pat left′ best′ pat′ : ℕ) : Type 0 where
   pub advance : (kinds counts nets firsts order cone reach src : List ℕ) (low : ℕ → ℕ) (rel : ℕ → ℕ → Bool)
-      → Setting i c o kinds counts nets firsts order cone reach src outs low rel g q goods → Ready c q g kinds counts firsts src order reach outs goods
+      → Setting i c o kinds counts nets firsts order cone reach src outs low rel g q goods → GoodRun c q g kinds counts firsts src order reach outs goods
       → n ≡ allPins (tabled i c o kinds counts nets) → ((y : ℕ) → digit y left ≡ true → y ≡ f / 2 - (i + c + n - o))
       → Advance (Shows i c o kinds counts nets low rel f) g q left best pat left′ best′ pat′
 
@@ -70,7 +70,7 @@ pub record VarsMarked (m x u : ℕ) (list input heads readers reach marks marks�
   pub only : (t : ℕ) → marked marks′ t ≡ true → (marked marks t ≡ true) ⊎ ((r : ℕ) × (r < length readers) × (t ≡ getD readers r 0))
 
 -- the blocks of w variables, with the readers of each
-pub record Reading (c w : ℕ) (counts firsts src order heads readers list input : List ℕ) : Type 0 where
+pub record VariableReaders (c w : ℕ) (counts firsts src order heads readers list input : List ℕ) : Type 0 where
   pub few : w ≤ 16
   pub listed : w ≤ length list
   pub known : (k : ℕ) → k < w → getD list k 0 < length input

@@ -6,8 +6,8 @@ ghost use lib.ListN.{length, getD};
 ghost use Rattle.events.specs.Events.{Chip};
 ghost use Rattle.homes.specs.Homes.{Looked};
 ghost use Rattle.cells.specs.Cells.{Good, Back};
-ghost use Rattle.known.specs.Setting.{Ready, Long};
-ghost use Rattle.alone.specs.Alone.{runLane, Went, Between, OutLooked, OutStep, VarPut, VarsPut, VarMarked, VarsMarked, Reading, InputRan, InputTried, InputStep};
+ghost use Rattle.known.specs.Setting.{GoodRun, Long};
+ghost use Rattle.alone.specs.Alone.{runLane, Went, Between, OutLooked, OutStep, VarPut, VarsPut, VarMarked, VarsMarked, VariableReaders, InputRan, InputTried, InputStep};
 use chip::wide;
 use chip::wide8;
 
@@ -143,7 +143,7 @@ fn set_input(
     marks: &mut [u64],
 )
     requires { ⌜ Chip c (now kinds) (now counts) (now firsts) (now src) (now order) (now reach) (now heads) (now readers) ⌝ }
-    requires { ⌜ Reading c w (now counts) (now firsts) (now src) (now order) (now heads) (now readers) (now list) (now input) ⌝ }
+    requires { ⌜ VariableReaders c w (now counts) (now firsts) (now src) (now order) (now heads) (now readers) (now list) (now input) ⌝ }
     requires { ⌜ (length (now acc) ≡ 16) × (length (now vals) ≡ 16672) × (length (now marks) ≡ 16) ⌝ }
     ensures { λ _. ⌜ VarsPut w x (now (list .entry)) (now (input .entry)) (λ k j. getD (now (acc .entry)) j 0) (now (vals .entry)) (now (vals .exit)) ⌝ }
     ensures { λ _. ⌜ VarsMarked w x u (now (list .entry)) (now (input .entry)) (now (heads .entry)) (now (readers .entry)) (now (reach .entry)) (now (marks .entry)) (now (marks .exit)) ⌝ }
@@ -187,7 +187,7 @@ fn run_input(
     changed: &mut [u64],
 )
     requires { ⌜ Chip c (now kinds) (now counts) (now firsts) (now src) (now order) (now reach) (now heads) (now readers) ⌝ }
-    requires { ⌜ Reading c w (now counts) (now firsts) (now src) (now order) (now heads) (now readers) (now list) (now input) ⌝ }
+    requires { ⌜ VariableReaders c w (now counts) (now firsts) (now src) (now order) (now heads) (now readers) (now list) (now input) ⌝ }
     requires { ⌜ (length (now goods) ≡ 16672) × Back (now goods) (now vals) (now marks) (now changed) ⌝ }
     requires { ⌜ Good c u (now kinds) (now counts) (now firsts) (now src) (now order) (now reach) (now goods) ⌝ }
     ensures { λ _. ⌜ InputRan c w f u (now (kinds .entry)) (now (counts .entry)) (now (firsts .entry)) (now (src .entry)) (now (order .entry)) (now (reach .entry)) (now (list .entry)) (now (input .entry)) (now (goods .entry)) (now (vals .exit)) (now (changed .exit)) ⌝ }
@@ -281,7 +281,7 @@ fn look_input(
     pat: &mut [u32],
 )
     requires { ⌜ Chip c (now kinds) (now counts) (now firsts) (now src) (now order) (now reach) (now heads) (now readers) ⌝ }
-    requires { ⌜ Reading c w (now counts) (now firsts) (now src) (now order) (now heads) (now readers) (now list) (now input) ⌝ }
+    requires { ⌜ VariableReaders c w (now counts) (now firsts) (now src) (now order) (now heads) (now readers) (now list) (now input) ⌝ }
     requires { ⌜ (length (now goods) ≡ 16672) × Back (now goods) (now vals) (now marks) (now changed) ⌝ }
     requires { ⌜ Good c u (now kinds) (now counts) (now firsts) (now src) (now order) (now reach) (now goods) ⌝ }
     requires { ⌜ (q < 4096) × (f < 10368) × (length (now outs) ≡ 64) × ((z : ℕ) → z < 64 → 16 * getD (now outs) z 0 + 16 ≤ 16672) ⌝ }
@@ -342,9 +342,9 @@ fn try_input(
     pat: &mut [u32],
 )
     requires { ⌜ Chip c (now kinds) (now counts) (now firsts) (now src) (now order) (now reach) (now heads) (now readers) ⌝ }
-    requires { ⌜ Reading c w (now counts) (now firsts) (now src) (now order) (now heads) (now readers) (now list) (now input) ⌝ }
+    requires { ⌜ VariableReaders c w (now counts) (now firsts) (now src) (now order) (now heads) (now readers) (now list) (now input) ⌝ }
     requires { ⌜ (i ≤ 64) × (f < 2 * i) × Back (now goods) (now vals) (now marks) (now changed) ⌝ }
-    requires { ⌜ Ready c q g (now kinds) (now counts) (now firsts) (now src) (now order) (now reach) (now outs) (now goods) ⌝ }
+    requires { ⌜ GoodRun c q g (now kinds) (now counts) (now firsts) (now src) (now order) (now reach) (now outs) (now goods) ⌝ }
     requires { ⌜ Long (now left) (now best) (now pat) ⌝ }
     ensures { λ _. ⌜ Went (λ x. x ≡ f) (InputStep i c w q g (now (kinds .entry)) (now (counts .entry)) (now (firsts .entry)) (now (src .entry)) (now (order .entry)) (now (reach .entry)) (now (outs .entry)) (now (list .entry)) (now (input .entry)) (now (goods .entry))) (now (left .entry)) (now (best .entry)) (now (pat .entry)) (now (left .exit)) (now (best .exit)) (now (pat .exit)) ⌝ }
     ensures { λ _. ⌜ Back (now (goods .entry)) (now (vals .exit)) (now (marks .exit)) (now (changed .exit)) ⌝ }
@@ -406,9 +406,9 @@ pub fn try_inputs(
     pat: &mut [u32],
 )
     requires { ⌜ Chip c (now kinds) (now counts) (now firsts) (now src) (now order) (now reach) (now heads) (now readers) ⌝ }
-    requires { ⌜ Reading c w (now counts) (now firsts) (now src) (now order) (now heads) (now readers) (now list) (now input) ⌝ }
+    requires { ⌜ VariableReaders c w (now counts) (now firsts) (now src) (now order) (now heads) (now readers) (now list) (now input) ⌝ }
     requires { ⌜ (i ≤ 64) × Back (now goods) (now vals) (now marks) (now changed) ⌝ }
-    requires { ⌜ Ready c q g (now kinds) (now counts) (now firsts) (now src) (now order) (now reach) (now outs) (now goods) ⌝ }
+    requires { ⌜ GoodRun c q g (now kinds) (now counts) (now firsts) (now src) (now order) (now reach) (now outs) (now goods) ⌝ }
     requires { ⌜ Long (now left) (now best) (now pat) ⌝ }
     ensures { λ _. ⌜ Went (λ f. f < 2 * i) (InputStep i c w q g (now (kinds .entry)) (now (counts .entry)) (now (firsts .entry)) (now (src .entry)) (now (order .entry)) (now (reach .entry)) (now (outs .entry)) (now (list .entry)) (now (input .entry)) (now (goods .entry))) (now (left .entry)) (now (best .entry)) (now (pat .entry)) (now (left .exit)) (now (best .exit)) (now (pat .exit)) ⌝ }
     ensures { λ _. ⌜ Back (now (goods .entry)) (now (vals .exit)) (now (marks .exit)) (now (changed .exit)) ⌝ }

@@ -19,7 +19,7 @@ use Rattle.chip.proofs.Pads.{ltb-lt}
 use Rattle.order.specs.Order.{Ordered}
 use Rattle.pads.specs.Sources.{SourceTable}
 use Rattle.stages.specs.Stage.{Watch}
-use Rattle.benches.specs.Benches.{Blocked, BlockInputs, Opened, Begun, BlockList, OutSlots}
+use Rattle.benches.specs.Benches.{Blocked, BlockInputs, BegunAt, Begun, BlockList, OutSlots}
 
 -- one pin more: it is a branch, or it is not
 module _ (i m : ℕ) (branches block input : List ℕ) (P : BlockInputs i m branches block input) where
@@ -81,7 +81,7 @@ outs-more m o n src outs l O =
 
 -- one place more
 pub begun-more : (n i c : ℕ) (counts firsts order sources left groups : List ℕ) (word : ℕ) → n < 1024 → Begun n i c counts firsts order sources left groups
-    → Opened i c (getD order n 0) counts firsts sources left word → Begun (n + 1) i c counts firsts order sources left (set groups n word)
+    → BegunAt i c (getD order n 0) counts firsts sources left word → Begun (n + 1) i c counts firsts order sources left (set groups n word)
 begun-more n i c counts firsts order sources left groups word l P D =
     record {
       long = simp length-set (P .long);

@@ -34,14 +34,14 @@ pub record Fitted (i c o n : ℕ) (kinds counts firsts nets order branches block
   pub inputs : BlockInputs i n branches block input
 
 -- the word of cell j before the first group: 0 if it is a pad buffer, else all outputs left to its faults
-pub record Opened (i c j : ℕ) (counts firsts sources left : List ℕ) (word : ℕ) : Type 0 where
+pub record BegunAt (i c j : ℕ) (counts firsts sources left : List ℕ) (word : ℕ) : Type 0 where
   pub pad : getD sources (i + j) 0 < i → word ≡ 0
   pub own : ¬ (getD sources (i + j) 0 < i) → Covers (i + j) (i + c + getD firsts j 0) (getD counts j 0) left word
 
 -- the first n places have their words
 pub record Begun (n i c : ℕ) (counts firsts order sources left groups : List ℕ) : Type 0 where
   pub long : length groups ≡ 1024
-  pub at : (t : ℕ) → t < n → Opened i c (getD order t 0) counts firsts sources left (getD groups t 0)
+  pub at : (t : ℕ) → t < n → BegunAt i c (getD order t 0) counts firsts sources left (getD groups t 0)
 
 -- ---- a group
 

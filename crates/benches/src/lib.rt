@@ -10,7 +10,7 @@ ghost use Rattle.pads.specs.Sources.{SourceTable};
 ghost use Rattle.slots.specs.Slots.{relOf, Laid};
 ghost use Rattle.readers.specs.Readers.{Heads};
 ghost use Rattle.stages.specs.Stage.{Watch};
-ghost use Rattle.benches.specs.Benches.{Blocked, BlockInputs, Fitted, Opened, BlockList, OutSlots, Benched};
+ghost use Rattle.benches.specs.Benches.{Blocked, BlockInputs, Fitted, BegunAt, BlockList, OutSlots, Benched};
 use chip::BLOCKS;
 use chip::Block;
 use chip::Branches;
@@ -64,7 +64,7 @@ fn open_of(
 ) -> u64
     requires { ⌜ (i ≤ 64) × (c ≤ 1024) × (j < c) × (length (now sources) ≡ 1088) × (length (now left) ≡ 10368) ⌝ }
     requires { ⌜ getD (now firsts) j 0 + getD (now counts) j 0 ≤ 4096 ⌝ }
-    ensures { λ r. ⌜ Opened i c j (now (counts .entry)) (now (firsts .entry)) (now (sources .entry)) (now (left .entry)) r ⌝ }
+    ensures { λ r. ⌜ BegunAt i c j (now (counts .entry)) (now (firsts .entry)) (now (sources .entry)) (now (left .entry)) r ⌝ }
 {
     if wide(sources[i + j]) < i {
         return 0;

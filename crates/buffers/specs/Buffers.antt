@@ -14,7 +14,7 @@ use Rattle.slots.specs.Slots.{FaultSlots}
 use Rattle.events.specs.Events.{Chip, Worked}
 use Rattle.homes.specs.Homes.{Looked}
 use Rattle.faults.specs.Numbers.{faultNumber}
-use Rattle.known.specs.Setting.{Shows, Setting, Advance, Ready}
+use Rattle.known.specs.Setting.{Shows, Setting, Advance, GoodRun}
 use Rattle.alone.specs.Alone.{runLane}
 
 -- the tables of a prepared chip, with the slots of its pins and outputs, and the good words
@@ -25,7 +25,7 @@ pub record Tables (i c o n q g : ℕ) (kinds counts firsts nets order branches r
   pub ordered : Ordered (tabled i c o kinds counts nets) order
   pub branched : BranchTable (tabled i c o kinds counts nets) branches
   pub chip : (heads readers : List ℕ) × Chip c kinds counts firsts src order reach heads readers
-  pub ready : Ready c q g kinds counts firsts src order reach outs goods
+  pub ready : GoodRun c q g kinds counts firsts src order reach outs goods
   pub outs-are : (z : ℕ) → z < o → getD outs z 0 ≡ getD src (outPin (tabled i c o kinds counts nets) z) 0
 
 -- ---- one fault

@@ -18,7 +18,7 @@ use Rattle.bridge.specs.Chunk.{Chunk}
 use Rattle.cells.proofs.Trying.{same-table}
 use Rattle.patterns.specs.Variables.{Variables}
 use Rattle.patterns.proofs.Setting.{chunk-of}
-use Rattle.known.specs.Setting.{Setting, Ready}
+use Rattle.known.specs.Setting.{Setting, GoodRun}
 use Rattle.rows.proofs.Bits.{split, meet}
 use Rattle.alone.specs.Alone.{Went, Between, OutStep, InputStep}
 use Rattle.alone.proofs.Steps.{went-both, went-same}
@@ -71,7 +71,7 @@ and-none a y u l e = word-zero (bitAnd a (bitAnd y u)) (omega (arith, and-le-r a
 
 module _ (i c o n w u q : ℕ) (kinds counts firsts nets order branches sources cone reach heads readers src outs list input : List ℕ) (low : ℕ → ℕ) (rel : ℕ → ℕ → Bool)
     (S : Stage i c o n w u kinds counts firsts nets order branches sources cone reach heads readers src outs list input low rel) where
-  pub ready-of : (goods vals : List ℕ) → u < 2 ^ 64 → q < 4096 → GoodWords c w q u kinds counts firsts src order reach goods vals → Ready c q u kinds counts firsts src order reach outs goods
+  pub ready-of : (goods vals : List ℕ) → u < 2 ^ 64 → q < 4096 → GoodWords c w q u kinds counts firsts src order reach goods vals → GoodRun c q u kinds counts firsts src order reach outs goods
   ready-of goods vals ul l G = record {
     chunk = l;
     words = G .words;
@@ -96,7 +96,7 @@ went-map A Step Step′ left best pat left′ best′ pat′ h W = record { kept
 
 module _ (i c o n w u q : ℕ) (kinds counts firsts nets order branches sources cone reach heads readers src outs list input goods : List ℕ) (low : ℕ → ℕ) (rel : ℕ → ℕ → Bool)
     (S : Stage i c o n w u kinds counts firsts nets order branches sources cone reach heads readers src outs list input low rel)
-    (R : Ready c q u kinds counts firsts src order reach outs goods) where
+    (R : GoodRun c q u kinds counts firsts src order reach outs goods) where
   abbrev Step : ℕ → ℕ → ℕ → ℕ → ℕ → ℕ → ℕ → Type 0
   Step = ChunkStep i c o n w q u kinds counts firsts nets order reach src outs list input goods
 

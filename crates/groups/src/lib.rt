@@ -6,7 +6,7 @@ ghost use mathlib.Core.List.{List};
 ghost use Rattle.chip.specs.Inner.Tables.{tabled};
 ghost use Rattle.events.specs.Events.{Chip};
 ghost use Rattle.cells.specs.Cells.{Clear, Back};
-ghost use Rattle.known.specs.Setting.{Ready, Long};
+ghost use Rattle.known.specs.Setting.{GoodRun, Long};
 ghost use Rattle.alone.specs.Alone.{Went};
 ghost use Rattle.groups.specs.Groups.{Joined, Alike, Parted};
 ghost use Rattle.stages.specs.Stage.{Watch, OutsOnly, Stage};
@@ -111,7 +111,7 @@ fn try_alone(
 )
     requires { ⌜ ((cone : List ℕ) × (low : ℕ → ℕ) × (rel : ℕ → ℕ → Bool) × Stage i c o n w u (now kinds) (now counts) (now firsts) (now nets) (now order) (now branches) (now sources) cone (now reach) (now heads) (now readers) (now src) (now outs) (now list) (now input) low rel) ⌝ }
     requires { ⌜ Back (now goods) (now vals) (now marks) (now changed) ⌝ }
-    requires { ⌜ Ready c q u (now kinds) (now counts) (now firsts) (now src) (now order) (now reach) (now outs) (now goods) ⌝ }
+    requires { ⌜ GoodRun c q u (now kinds) (now counts) (now firsts) (now src) (now order) (now reach) (now outs) (now goods) ⌝ }
     requires { ⌜ Long (now left) (now best) (now pat) ⌝ }
     ensures { λ _. ⌜ Went (Alone i c o n (now (firsts .entry)) (now (sources .entry))) (ChunkStep i c o n w q u (now (kinds .entry)) (now (counts .entry)) (now (firsts .entry)) (now (nets .entry)) (now (order .entry)) (now (reach .entry)) (now (src .entry)) (now (outs .entry)) (now (list .entry)) (now (input .entry)) (now (goods .entry))) (now (left .entry)) (now (best .entry)) (now (pat .entry)) (now (left .exit)) (now (best .exit)) (now (pat .exit)) ⌝ }
     ensures { λ _. ⌜ Back (now (goods .entry)) (now (vals .exit)) (now (marks .exit)) (now (changed .exit)) ⌝ }

@@ -24,7 +24,7 @@ pub record Setting (i c o : ℕ) (kinds counts nets firsts order cone reach src 
   pub outs-are : (z : ℕ) → z < 64 → digit z g ≡ true → getD outs z 0 ≡ getD src (outPin (tabled i c o kinds counts nets) z) 0
 
 -- the words of the good run, and the outputs
-pub record Ready (c q g : ℕ) (kinds counts firsts src order reach outs goods : List ℕ) : Type 0 where
+pub record GoodRun (c q g : ℕ) (kinds counts firsts src order reach outs goods : List ℕ) : Type 0 where
   pub chunk : q < 4096
   pub words : length goods ≡ 16672
   pub outs-long : length outs ≡ 64

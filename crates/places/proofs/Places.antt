@@ -23,7 +23,7 @@ use Rattle.homes.specs.Homes.{numberOf, homeLane, Home}
 use Rattle.cells.specs.Cells.{Good, HomeTried}
 use Rattle.bridge.specs.Chunk.{faultAt}
 use Rattle.bridge.proofs.Bridge.{home-asked, fault-number}
-use Rattle.known.specs.Setting.{Setting, Shows, Advance, Ready, Long}
+use Rattle.known.specs.Setting.{Setting, Shows, Advance, GoodRun, Long}
 use Rattle.known.proofs.Advance.{advance-none, advance-looked}
 use Rattle.order.specs.Order.{Ordered}
 use Rattle.readers.specs.Readers.{Wires}
@@ -108,7 +108,7 @@ place-idle p i c q g kinds counts firsts src order reach outs goods left best pa
     }
 
 pub place-open : (p i c q g : ℕ) (kinds counts firsts src order reach heads readers outs goods left best pat groups left′ best′ pat′ groups′ : List ℕ) (w : ℕ)
-    → Chip c kinds counts firsts src order reach heads readers → Apart i c counts firsts src order → Ready c q g kinds counts firsts src order reach outs goods → p < c → p < 1024 → length groups ≡ 1024
+    → Chip c kinds counts firsts src order reach heads readers → Apart i c counts firsts src order → GoodRun c q g kinds counts firsts src order reach outs goods → p < c → p < 1024 → length groups ≡ 1024
     → bitAnd (getD groups p 0) g ≢ 0
     → HomeTried c (bitAnd (getD groups p 0) g) p q (getD kinds (getD order p 0) 0) (i + getD order p 0) (i + c + getD firsts (getD order p 0) 0) (getD order p 0) (getD firsts (getD order p 0) 0) (getD counts (getD order p 0) 0)
     kinds counts firsts src order reach outs goods left best pat left′ best′ pat′

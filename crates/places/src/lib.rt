@@ -5,7 +5,7 @@ ghost use Prim.Native.Nat.{ℕ, _+_, _*_, _≤_, _<_};
 ghost use lib.ListN.{length, getD};
 ghost use Rattle.events.specs.Events.{Chip};
 ghost use Rattle.cells.specs.Cells.{Good, Back, HomeTried};
-ghost use Rattle.known.specs.Setting.{Ready, Long};
+ghost use Rattle.known.specs.Setting.{GoodRun, Long};
 ghost use Rattle.places.specs.Places.{Covers, Apart, PlaceDone, PlacesDone};
 use chip::wide;
 use chip::wide8;
@@ -136,7 +136,7 @@ fn try_place(
     requires { ⌜ Chip c (now kinds) (now counts) (now firsts) (now src) (now order) (now reach) (now heads) (now readers) ⌝ }
     requires { ⌜ Apart i c (now counts) (now firsts) (now src) (now order) ⌝ }
     requires { ⌜ (p < c) × Back (now goods) (now vals) (now marks) (now changed) ⌝ }
-    requires { ⌜ Ready c q g (now kinds) (now counts) (now firsts) (now src) (now order) (now reach) (now outs) (now goods) ⌝ }
+    requires { ⌜ GoodRun c q g (now kinds) (now counts) (now firsts) (now src) (now order) (now reach) (now outs) (now goods) ⌝ }
     requires { ⌜ Long (now left) (now best) (now pat) ⌝ }
     requires { ⌜ length (now groups) ≡ 1024 ⌝ }
     ensures { λ _. ⌜ PlaceDone p i c q g (now (kinds .entry)) (now (counts .entry)) (now (firsts .entry)) (now (src .entry)) (now (order .entry)) (now (reach .entry)) (now (outs .entry)) (now (goods .entry)) (now (left .entry)) (now (best .entry)) (now (pat .entry)) (now (groups .entry)) (now (left .exit)) (now (best .exit)) (now (pat .exit)) (now (groups .exit)) ⌝ }
@@ -198,7 +198,7 @@ pub fn try_places(
     requires { ⌜ Chip c (now kinds) (now counts) (now firsts) (now src) (now order) (now reach) (now heads) (now readers) ⌝ }
     requires { ⌜ Apart i c (now counts) (now firsts) (now src) (now order) ⌝ }
     requires { ⌜ Back (now goods) (now vals) (now marks) (now changed) ⌝ }
-    requires { ⌜ Ready c q g (now kinds) (now counts) (now firsts) (now src) (now order) (now reach) (now outs) (now goods) ⌝ }
+    requires { ⌜ GoodRun c q g (now kinds) (now counts) (now firsts) (now src) (now order) (now reach) (now outs) (now goods) ⌝ }
     requires { ⌜ Long (now left) (now best) (now pat) × (length (now groups) ≡ 1024) ⌝ }
     ensures { λ _. ⌜ PlacesDone c i c q g (now (kinds .entry)) (now (counts .entry)) (now (firsts .entry)) (now (src .entry)) (now (order .entry)) (now (reach .entry)) (now (outs .entry)) (now (goods .entry)) (now (left .entry)) (now (best .entry)) (now (pat .entry)) (now (groups .entry)) (now (left .exit)) (now (best .exit)) (now (pat .exit)) (now (groups .exit)) ⌝ }
     ensures { λ _. ⌜ Back (now (goods .entry)) (now (vals .exit)) (now (marks .exit)) (now (changed .exit)) ⌝ }

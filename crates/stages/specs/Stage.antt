@@ -12,7 +12,7 @@ use Rattle.order.specs.Order.{Ordered}
 use Rattle.pads.specs.Sources.{SourceTable}
 use Rattle.events.specs.Events.{Chip}
 use Rattle.flip.specs.Bed.{Bed}
-use Rattle.alone.specs.Alone.{Reading, Variables}
+use Rattle.alone.specs.Alone.{VariableReaders, Variables}
 use Rattle.places.specs.Places.{Covers, Apart}
 
 -- the tables of a group g of outputs, with w blocks behind each
@@ -25,7 +25,7 @@ pub record Stage (i c o n w g : ℕ) (kinds counts firsts nets order branches so
   pub sources-are : SourceTable (tabled i c o kinds counts nets) sources
   pub chip : Chip c kinds counts firsts src order reach heads readers
   pub apart : Apart i c counts firsts src order
-  pub reading : Reading c w counts firsts src order heads readers list input
+  pub reading : VariableReaders c w counts firsts src order heads readers list input
   pub variables : Variables (tabled i c o kinds counts nets) low rel g w list input
   pub masks : (t : ℕ) → t < c → getD reach t 0 ≡ getD cone (getD firsts (getD order t 0) 0) 0
   pub beds : (z : ℕ) → z < 64 → digit z g ≡ true → Bed (tabled i c o kinds counts nets) low rel z firsts order cone src
