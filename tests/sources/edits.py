@@ -1,4 +1,5 @@
-"""The must-fail edits. A file has one edit, or several of different functions, each behind a line `## NAME: what it shows`."""
+"""The must-fail edits. A file has one edit, or several of different functions, each behind a line `## NAME: what it shows`.
+An edit changes functions, or puts versions of a function before it, each with a name of its own."""
 
 import re
 from dataclasses import dataclass
@@ -15,7 +16,7 @@ class Edit:
     file: str  # without its ending
     name: str
     says: str
-    changes: tuple  # the old texts
+    changes: tuple  # the old texts, each with the new one
     alone: bool  # whether it is its file's only edit
 
 
@@ -27,7 +28,7 @@ def edits_of(crate):
         if not parts:
             parts = [path.stem, text.splitlines()[0].removeprefix("# ") if text.startswith("# ") else "", text]
         for name, says, body in zip(parts[::3], parts[1::3], parts[2::3]):
-            changes = tuple(re.findall(r"^old: (.*)$", body, re.M))
+            changes = tuple(re.findall(r"^old: (.*)\nnew: ?(.*)$", body, re.M))
             yield Edit(crate, path.stem, name, says, changes, len(parts) == 3)
 
 
@@ -38,14 +39,15 @@ def log_of(edit):
 
 
 def functions_edited(edit):
-    """The functions whose code an edit changes."""
+    """The functions that an edit adds, or whose code it changes."""
     found = set()
     for path in tree.files(edit.crate, "src", "rt"):
         text = without_comments(path.read_text())
-        for old in edit.changes:
-            at = text.find(old)
-            starts = [start.group(2) for start in START.finditer(text) if start.start() < at]
-            found.update(starts[-1:])
+        starts = [(start.start(), start.group(2)) for start in START.finditer(text)]
+        for old, new in edit.changes:
+            added = set(re.findall(r"\bfn (\w+)\(", new)) - {name for _, name in starts}
+            before = [name for start, name in starts if start < text.find(old)]
+            found.update(added or before[-1:])
     return found
 
 

@@ -23,7 +23,7 @@ use Rattle.chip.proofs.Pads.{pin-one}
 use Rattle.chip.proofs.Basics.{pin-in, first-pin}
 use Rattle.chip.proofs.Blocks.{counted, tally-past}
 use Rattle.words.proofs.Bits.{digit-zero}
-use Rattle.words.proofs.Lanes.{some-pin}
+use Rattle.chip.proofs.Basics.{some-pin}
 use Rattle.rows.specs.Rows.{Filled, onRow}
 use Rattle.rows.proofs.Fill.{row-at}
 use Rattle.rows.proofs.Bits.{meet}
@@ -36,11 +36,11 @@ use Rattle.faults.specs.Numbers.{faultNumber}
 use Rattle.bridge.proofs.Bridge.{lane}
 use Rattle.cells.specs.Cells.{Good, Clear, Back}
 use Rattle.cells.proofs.Trying.{same-table}
-use Rattle.known.specs.Setting.{Shows, Setting, Long}
+use Rattle.known.specs.Setting.{Shows, Setting, Long, runLane, Went}
 use Rattle.known.proofs.Advance.{advance-none}
-use Rattle.alone.specs.Alone.{runLane, Went, VarPut, VarsPut, VarMarked, VarsMarked, VariableReaders, InputRan, InputTried, Variables, InputStep}
-use Rattle.alone.proofs.Steps.{looked-kept, looked-advance}
-use Rattle.alone.proofs.Runs.{constant, start-of, rules-of}
+use Rattle.alone.specs.Alone.{VarPut, VarsPut, VarMarked, VarsMarked, VariableReaders, InputRan, InputTried, Variables, InputStep}
+use Rattle.known.proofs.Steps.{looked-kept, looked-advance}
+use Rattle.known.proofs.Runs.{constant, start-of, rules-of}
 
 -- ---- the variables of an input
 

@@ -25,10 +25,10 @@ use Rattle.flip.proofs.Flips.{out-lane}
 use Rattle.faults.specs.Numbers.{faultNumber}
 use Rattle.bridge.proofs.Bridge.{lane}
 use Rattle.homes.specs.Homes.{Looked}
-use Rattle.known.specs.Setting.{Shows, Setting, GoodRun, Long}
-use Rattle.alone.specs.Alone.{runLane, Went, Between, OutLooked, OutStep}
-use Rattle.alone.proofs.Steps.{looked-idle, looked-kept, looked-advance, went-both}
-use Rattle.alone.proofs.Runs.{constant, start-of, rules-of}
+use Rattle.known.specs.Setting.{Shows, Setting, GoodRun, Long, runLane, Went}
+use Rattle.alone.specs.Alone.{Between, OutLooked, OutStep}
+use Rattle.known.proofs.Steps.{looked-idle, looked-kept, looked-advance, went-both}
+use Rattle.known.proofs.Runs.{constant, start-of, rules-of}
 
 -- ---- the slots of the run
 

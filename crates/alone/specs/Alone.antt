@@ -13,16 +13,7 @@ use Rattle.chip.specs.Inner.Tables.{tabled}
 use Rattle.chip.specs.Search.{digit, width}
 use Rattle.events.specs.Events.{marked, Live, Obeys}
 use Rattle.homes.specs.Homes.{Looked}
-use Rattle.known.specs.Setting.{Shows, Setting, Advance, GoodRun, Kept}
-
--- lane x of the difference of the good words at slot s and the words of a run at slot e
-abbrev pub runLane : ℕ → ℕ → List ℕ → List ℕ → ℕ → Bool
-runLane s e goods vals x = xor (digit (x % 64) (getD goods (16 * s + x / 64) 0)) (digit (x % 64) (getD vals (16 * e + x / 64) 0))
-
--- the faults that are Mine went on, each as Step tells of its entries before and after, and no other entry changed
-pub record Went (Mine : ℕ → Type 0) (Step : ℕ → ℕ → ℕ → ℕ → ℕ → ℕ → ℕ → Type 0) (left best pat left′ best′ pat′ : List ℕ) : Type 0 where
-  pub kept : Kept Mine left best pat left′ best′ pat′
-  pub step : (f : ℕ) → Mine f → Step f (getD left f 0) (getD best f 0) (getD pat f 0) (getD left′ f 0) (getD best′ f 0) (getD pat′ f 0)
+use Rattle.known.specs.Setting.{Shows, Setting, Advance, GoodRun, runLane}
 
 -- the faults from a up to b
 abbrev pub Between : ℕ → ℕ → ℕ → Type 0

@@ -6,32 +6,12 @@ ghost use lib.ListN.{length, getD};
 ghost use Rattle.events.specs.Events.{Chip};
 ghost use Rattle.homes.specs.Homes.{Looked};
 ghost use Rattle.cells.specs.Cells.{Good, Back};
-ghost use Rattle.known.specs.Setting.{GoodRun, Long};
-ghost use Rattle.alone.specs.Alone.{runLane, Went, Between, OutLooked, OutStep, VarPut, VarsPut, VarMarked, VarsMarked, VariableReaders, InputRan, InputTried, InputStep};
+ghost use Rattle.known.specs.Setting.{GoodRun, Long, runLane, Went};
+ghost use Rattle.alone.specs.Alone.{Between, OutLooked, OutStep, VarPut, VarsPut, VarMarked, VarsMarked, VariableReaders, InputRan, InputTried, InputStep};
+use chip::OUTPUTS;
 use chip::wide;
 use chip::wide8;
-
-// Looks for fault f at the outputs of u in all lanes: the good words stand in the slots of outs, those of its run in the slots of ends.
-pub fn look_all(
-    f: usize,
-    q: usize,
-    u: u64,
-    outs: &[u16],
-    ends: &[u16],
-    goods: &[u64],
-    vals: &[u64],
-    left: &mut [u64],
-    best: &mut [u8],
-    pat: &mut [u32],
-)
-    requires { ⌜ (q < 4096) × (f < 10368) × (length (now outs) ≡ 64) × (length (now ends) ≡ 64) × ((z : ℕ) → z < 64 → (16 * getD (now outs) z 0 + 16 ≤ length (now goods)) × (16 * getD (now ends) z 0 + 16 ≤ length (now vals))) ⌝ }
-    requires { ⌜ Long (now left) (now best) (now pat) ⌝ }
-    ensures { λ _. ⌜ Looked f q u (λ z. runLane (getD (now (outs .entry)) z 0) (getD (now (ends .entry)) z 0) (now (goods .entry)) (now (vals .entry))) (now (left .entry)) (now (best .entry)) (now (pat .entry)) (now (left .exit)) (now (best .exit)) (now (pat .exit)) ⌝ }
-{
-    let mut t = [0u64; 16];
-    homes::all_lanes(&mut t);
-    homes::look(f, q, u, &t, outs, ends, goods, vals, left, best, pat);
-}
+use rows::ROW;
 
 // Looks for fault f, the pin of output z stuck at v, at the outputs of g.
 fn try_out(
@@ -52,10 +32,10 @@ fn try_out(
 {
     let u = left[f] & g;
     if u != 0 {
-        let mut ends = [0u16; 64];
+        let mut ends = [0u16; OUTPUTS];
         homes::copy_pins(0, 64, outs, &mut ends);
         ends[z] = 1040 + v;
-        look_all(f, q, u, outs, &ends, goods, goods, left, best, pat);
+        known::look_all(f, q, u, outs, &ends, goods, goods, left, best, pat);
     }
 }
 
@@ -193,7 +173,7 @@ fn run_input(
     ensures { λ _. ⌜ InputRan c w f u (now (kinds .entry)) (now (counts .entry)) (now (firsts .entry)) (now (src .entry)) (now (order .entry)) (now (reach .entry)) (now (list .entry)) (now (input .entry)) (now (goods .entry)) (now (vals .exit)) (now (changed .exit)) ⌝ }
     ensures { λ _. ⌜ length (now (marks .exit)) ≡ 16 ⌝ }
 {
-    let mut acc = [0u64; 16];
+    let mut acc = [0u64; ROW];
     rows::load(goods, 1040 + f % 2, &mut acc);
     set_input(
         f / 2,
@@ -309,7 +289,7 @@ fn look_input(
         marks,
         changed,
     );
-    look_all(f, q, u, outs, outs, goods, vals, left, best, pat);
+    known::look_all(f, q, u, outs, outs, goods, vals, left, best, pat);
     free_input(f / 2, w, list, input, goods, vals);
     cells::undo(c, order, goods, vals, marks, changed);
 }

@@ -8,7 +8,8 @@ use native.Mathlib.Decide.{ℕ-discrete, decLt}
 use lib.ListN.{length, getD, set}
 use lib.Seq.{getD-set-same, getD-set-other}
 use lib.Bits.{bitOr, bitAnd}
-use Rattle.chip.specs.Netlist.{Netlist, Sound}
+use Rattle.chip.specs.Netlist.{Netlist}
+use Rattle.chip.specs.Inner.Limits.{Sound}
 use Rattle.chip.specs.Pads.{source}
 use Rattle.chip.specs.Inner.Tables.{BranchTable}
 use Rattle.chip.specs.Class.{Reach, Branch}

@@ -9,7 +9,8 @@ use native.Mathlib.Decide.{decLt}
 use borrow.Author.Tests.{lt-ltb, le-ltb}
 use lib.ListN.{getD}
 use lib.Dec.{ltb}
-use Rattle.chip.specs.Netlist.{Netlist, InLimits, allPins, firstPin}
+use Rattle.chip.specs.Netlist.{Netlist, allPins, firstPin}
+use Rattle.chip.specs.Inner.Limits.{InLimits}
 use Rattle.chip.specs.Pads.{branchOf}
 use Rattle.chip.specs.Inner.Tables.{tabled, BranchTable}
 use Rattle.chip.specs.Class.{Lowest, Reach, blocks, tally}
@@ -19,15 +20,16 @@ use Rattle.chip.proofs.Basics.{reach-in}
 use Rattle.chip.proofs.Blocks.{branch, counted, tally-past, tally-same}
 use Rattle.chip.proofs.Unique.{one-low}
 use Rattle.levels.specs.Levels.{Mask}
+use Rattle.structure.specs.Inner.Shape.{Ready}
 use Rattle.structure.specs.declared.Shape.{Shape}
 use Rattle.pads.specs.Sources.{SourceTable}
 use Rattle.slots.specs.Slots.{relOf, Laid, variable}
 use Rattle.slots.specs.Slots as Slots
 use Rattle.slots.proofs.Tables.{passing}
-use Rattle.walk.specs.Walk.{Ready}
+use Rattle.levels.specs.Levels.{ReachMasks}
 use Rattle.walk.proofs.Walking.{ready-few, ready-laid}
 use Rattle.flip.specs.Bed.{Bed}
-use Rattle.readers.specs.Readers.{Heads, Wires, Built, Sizes}
+use Rattle.readers.specs.Readers.{Heads, Wires, Built, Lengths}
 use Rattle.readers.proofs.Chips.{wires, chip-of, bed-of}
 use Rattle.places.proofs.Places.{apart-of}
 use Rattle.alone.specs.Alone.{Variables}
@@ -50,7 +52,7 @@ module _ (i c o n b : ℕ) (kinds counts nets branches block : List ℕ) (low : 
   block-low : (p : ℕ) → p < n → getD branches p 0 < i → getD block p 0 < 4160
   block-low p h a = omega (arith, block-is p h a, counted N low (D .lowest) .in-block p (omega arith) (is-branch p h a), D .count-is)
 
-  pub heads-of : (firsts order : List ℕ) → Sizes kinds counts firsts branches nets order block → Heads i n branches nets block
+  pub heads-of : (firsts order : List ℕ) → Lengths kinds counts firsts branches nets order block → Heads i n branches nets block
   heads-of firsts order Z = record {
     few-inputs = L .few-inputs;
     few-pins = omega (arith, L .few-pins);
@@ -89,7 +91,7 @@ module _ (o b z g : ℕ) (reached : List ℕ) (G : Group o b z g reached) (y : �
   }
 
 -- a block with a branch that reaches an output reaches it
-module _ (N : Netlist) (n : ℕ) (s : Shape) (firsts order branches block reached cone : List ℕ) (R : Ready N n s firsts order branches block reached cone) (low : ℕ → ℕ) (K : Lowest N low)
+module _ {N : Netlist} {n : ℕ} {s : Shape} {firsts order branches block reached : List ℕ} (R : Ready N n s firsts order branches block reached) (low : ℕ → ℕ) (K : Lowest N low)
     (y p e : ℕ) (yo : y < N .outs) (a : branchOf N p < N .inputs) (r : Reach N y p e) where
   there : p < allPins N
   there = reach-in N y r
@@ -109,13 +111,13 @@ module _ (N : Netlist) (n : ℕ) (s : Shape) (firsts order branches block reache
           (e, record { pin = p; branch = record { pin = there; names = sym (counted N low K .own p there a); input = rw (counted N low K .own p there a) a }; block = refl; reach = r }))
 
 -- a prepared chip of class 2 or 3
-module _ (i c o n : ℕ) (s : Shape) (kinds counts firsts nets order branches block reached cone : List ℕ)
-    (R : Ready (tabled i c o kinds counts nets) n s firsts order branches block reached cone) (k23 : s .class ≢ 1) (low : ℕ → ℕ) (K : Lowest (tabled i c o kinds counts nets) low) where
+module _ (i c o n : ℕ) (s : Shape) (kinds counts firsts nets order branches block reached : List ℕ)
+    (R : Ready (tabled i c o kinds counts nets) n s firsts order branches block reached) (k23 : s .class ≢ 1) (low : ℕ → ℕ) (K : Lowest (tabled i c o kinds counts nets) low) where
   laid : Laid (tabled i c o kinds counts nets) (s .blocks) block low
-  laid = ready-laid (tabled i c o kinds counts nets) n s firsts order branches block reached cone R k23 low K
+  laid = ready-laid R k23 low K
 
   few-blocks : s .blocks ≤ 4160
-  few-blocks = ready-few (tabled i c o kinds counts nets) n s firsts order branches block reached cone R
+  few-blocks = ready-few R
 
   module _ (z w g : ℕ) (G : Group o (s .blocks) z g reached) (list input : List ℕ) where
     pub variables-of : BlockInputs i n branches block input → w ≡ tally (relOf reached z) (s .blocks) → BlockList (s .blocks) (relOf reached z) list → Variables (tabled i c o kinds counts nets) low (relOf reached) g w list input
@@ -127,17 +129,17 @@ module _ (i c o n : ℕ) (s : Shape) (kinds counts firsts nets order branches bl
               let a : k < s .blocks = omega (arith, laid .count-is) in
               ap (λ x. getD list x 0) (same-tally o (s .blocks) z g reached G y l d k (omega arith)) ∙ M .at k a (sym (G .same y k l d a) ∙ r);
           input-is = input-is i c o n (s .blocks) kinds counts nets branches block low (R .limits) (R .pins) (R .shaped .branch-table) few-blocks laid input J;
-          reached = λ y p e l d a r. reaches (tabled i c o kinds counts nets) n s firsts order branches block reached cone R low K y p e (G .outputs y l d) a r;
+          reached = λ y p e l d a r. reaches R low K y p e (G .outputs y l d) a r;
         }
 
     -- the chip's tables, and those of the group
-    module _ (sources reach heads readers src outs : List ℕ) (S : SourceTable (tabled i c o kinds counts nets) sources) (F : Fitted i c o n kinds counts firsts nets order branches block cone reach heads readers input)
+    module _ (sources cone reach heads readers src outs : List ℕ) (C : ReachMasks (tabled i c o kinds counts nets) cone) (S : SourceTable (tabled i c o kinds counts nets) sources) (F : Fitted i c o n kinds counts firsts nets order branches block cone reach heads readers input)
         (B : Benched z i o n (s .blocks) w nets branches block reached src outs list) where
       pins-are : n - o ≡ firstPin (tabled i c o kinds counts nets) c
       pins-are = omega (arith, R .pins)
 
       bed : (y : ℕ) → y < 64 → digit y g ≡ true → Bed (tabled i c o kinds counts nets) low (relOf reached) y firsts order cone src
-      bed y l d = bed-of i c o n (s .blocks) y w kinds counts branches nets firsts order block reached cone (B .slots) src low (R .limits) (R .pins) (R .shaped .first-pins) (R .shaped .ordered) (R .shaped .branch-table) (R .cones) laid
+      bed y l d = bed-of i c o n (s .blocks) y w kinds counts branches nets firsts order block reached cone (B .slots) src low (R .limits) (R .pins) (R .shaped .first-pins) (R .shaped .ordered) (R .shaped .branch-table) C laid
           (G .outputs y l d) (omega (arith, G .few, same-tally o (s .blocks) z g reached G y l d (s .blocks) (omega arith))) (same-slots o (s .blocks) z g reached G y l d w (B .slots) (B .variables)) (B .pin-slots)
 
       few-own : z < 64

@@ -4,12 +4,11 @@ use mathlib.Core.Path.{_≡_, sym, ap, _∙_}
 use mathlib.Core.Bool.{Bool, true, false, false≢true}
 use mathlib.Core.List.{List}
 use native.Mathlib.Omega.{arith}
-use native.Mathlib.Numerals.{add-one}
 use native.Mathlib.Decide.{ℕ-discrete, decLt}
 use borrow.Author.Tests.{lt-ltb}
 use lib.ListN.{getD, set, take, replicate, length-set, length-take, List·getD-eq-default}
 use lib.Seq.{getD-set-same, getD-set-other, getD-take}
-use Rattle.chip.specs.Netlist.{InLimits, bit}
+use Rattle.chip.specs.Inner.Limits.{InLimits}
 use Rattle.chip.specs.Inner.Tables.{tabled, FirstPins}
 use Rattle.chip.specs.Pads.{source}
 use Rattle.chip.specs.Class.{tally}
@@ -60,12 +59,6 @@ module _ (n w : ℕ) (rel : ℕ → Bool) (list : List ℕ) (e : w ≡ tally rel
         long = P .long;
         at = λ k h a. elim (ℕ-discrete k n) [ yes q ↦ absurd (false≢true (sym r ∙ ap rel (sym q) ∙ a)) | no g ↦ P .at k (omega arith) a ];
       }
-
-  pub count-more : rel n ≡ true → w + 1 ≡ tally rel (n + 1)
-  count-more r = rw (add-one n) (omega (arith, ap bit r))
-
-  pub count-skip : rel n ≡ false → w ≡ tally rel (n + 1)
-  count-skip r = rw (add-one n) (omega (arith, ap bit r))
 
 -- one output more
 pub outs-more : (m o n : ℕ) (src outs : List ℕ) → m < 64 → OutSlots m o n src outs → OutSlots (m + 1) o n src (set outs m (getD src (n - o + m) 0))

@@ -7,7 +7,7 @@ use lib.ListN.{length, getD}
 use Rattle.chip.specs.Class.{tally}
 use Rattle.chip.specs.Search.{digit}
 use Rattle.slots.specs.Slots.{relOf, Variables, PinSlots}
-use Rattle.readers.specs.Readers.{Heads, Built, Sizes}
+use Rattle.readers.specs.Readers.{Heads, Built, Lengths}
 use Rattle.places.specs.Places.{Covers}
 
 -- ---- the chip
@@ -26,7 +26,7 @@ pub record BlockInputs (i n : ℕ) (branches block input : List ℕ) : Type 0 wh
 
 -- a chip's tables: the outputs that each place reaches, the readers of each block and each cell, the input of each block
 pub record Fitted (i c o n : ℕ) (kinds counts firsts nets order branches block cone reach heads readers input : List ℕ) : Type 0 where
-  pub sizes : Sizes kinds counts firsts branches nets order block
+  pub sizes : Lengths kinds counts firsts branches nets order block
   pub named : Heads i n branches nets block
   pub reach-long : length reach ≡ 1024
   pub masks : (t : ℕ) → t < c → getD reach t 0 ≡ getD cone (getD firsts (getD order t 0) 0) 0

@@ -1,13 +1,17 @@
 // The tables that a group of outputs is tried on: those of the chip, which no group changes, and those of the group.
 ghost use mathlib.Core.Path.{_≡_};
+ghost use mathlib.Core.Logic.{_≢_};
+ghost use mathlib.Core.List.{List};
 ghost use Prim.Native.Nat.{ℕ, _+_, _-_, _≤_, _<_};
 ghost use lib.ListN.{length, getD};
-ghost use Rattle.chip.specs.Netlist.{allPins, InLimits};
-ghost use Rattle.chip.specs.Inner.Tables.{tabled, FirstPins, BranchTable};
+ghost use Rattle.chip.specs.Inner.Limits.{InLimits};
+ghost use Rattle.chip.specs.Inner.Tables.{tabled, sized, FirstPins};
 ghost use Rattle.chip.specs.Class.{tally};
 ghost use Rattle.order.specs.Order.{Ordered};
 ghost use Rattle.pads.specs.Sources.{SourceTable};
-ghost use Rattle.slots.specs.Slots.{relOf, Laid};
+ghost use Rattle.structure.specs.Inner.Shape.{Ready};
+ghost use Rattle.structure.specs.declared.Shape.{Shape};
+ghost use Rattle.slots.specs.Slots.{relOf};
 ghost use Rattle.readers.specs.Readers.{Heads};
 ghost use Rattle.stages.specs.Stage.{Watch};
 ghost use Rattle.benches.specs.Benches.{Blocked, BlockInputs, Fitted, BegunAt, BlockList, OutSlots, Benched};
@@ -16,11 +20,11 @@ use chip::Block;
 use chip::Branches;
 use chip::Counts;
 use chip::Firsts;
-use chip::Kinds;
 use chip::Nets;
 use chip::Order;
 use chip::PinWords;
 use chip::Reached;
+use chip::Sizes;
 use chip::wide;
 use chip::wide8;
 
@@ -76,22 +80,18 @@ fn open_of(
 pub fn start_groups(
     i: usize,
     c: usize,
-    o: usize,
-    kinds: &Kinds,
     counts: &Counts,
     firsts: &Firsts,
-    nets: &Nets,
     order: &Order,
     sources: &[u16],
     left: &[u64],
     groups: &mut [u64],
 )
-    requires { ⌜ InLimits (tabled i c o (now kinds) (now counts) (now nets)) ⌝ }
-    requires { ⌜ FirstPins (tabled i c o (now kinds) (now counts) (now nets)) (now firsts) ⌝ }
-    requires { ⌜ Ordered (tabled i c o (now kinds) (now counts) (now nets)) (now order) ⌝ }
-    requires { ⌜ SourceTable (tabled i c o (now kinds) (now counts) (now nets)) (now sources) ⌝ }
+    requires { ⌜ ((o : ℕ) × (kinds : List ℕ) × (nets : List ℕ) × InLimits (tabled i c o kinds (now counts) nets) × FirstPins (tabled i c o kinds (now counts) nets) (now firsts)
+        × Ordered (tabled i c o kinds (now counts) nets) (now order) × SourceTable (tabled i c o kinds (now counts) nets) (now sources)) ⌝ }
     requires { ⌜ (length (now left) ≡ 10368) × (length (now groups) ≡ 1024) ⌝ }
-    ensures { λ _. ⌜ Watch i c (tabled i c o (now (kinds .entry)) (now (counts .entry)) (now (nets .entry))) (now (counts .entry)) (now (firsts .entry)) (now (order .entry)) (now (left .entry)) (now (groups .exit)) ⌝ }
+    ensures { λ _. ⌜ ((o : ℕ) (kinds nets : List ℕ) → Ordered (tabled i c o kinds (now (counts .entry)) nets) (now (order .entry)) → SourceTable (tabled i c o kinds (now (counts .entry)) nets) (now (sources .entry))
+        → Watch i c (tabled i c o kinds (now (counts .entry)) nets) (now (counts .entry)) (now (firsts .entry)) (now (order .entry)) (now (left .entry)) (now (groups .exit))) ⌝ }
 {
     for t in 0..c {
         groups[t] = open_of(i, c, wide(order[t]), counts, firsts, sources, left);
@@ -108,12 +108,10 @@ fn out_slots(o: usize, n: usize, src: &Nets, outs: &mut [u16])
     }
 }
 
-// The tables of a group that output z is one of. Answers how many variables there are.
+// The tables of a group that output y is one of. Answers how many variables there are.
 pub fn bench(
-    z: usize,
-    i: usize,
-    o: usize,
-    n: usize,
+    z: Sizes,
+    y: usize,
     b: usize,
     nets: &Nets,
     branches: &Branches,
@@ -123,25 +121,22 @@ pub fn bench(
     outs: &mut [u16],
     list: &mut [u16],
 ) -> usize
-    requires { ⌜ Heads i n (now branches) (now nets) (now block) ⌝ }
-    requires { ⌜ (z < o) × (o ≤ 64) × (o ≤ n) × (b ≤ 4160) × (tally (relOf (now reached) z) b ≤ 16) ⌝ }
-    requires { ⌜ (length (now outs) ≡ 64) × ((y : ℕ) → getD (now outs) y 0 ≡ 0) × (length (now list) ≡ 16) ⌝ }
-    ensures { λ r. ⌜ Benched z i o n b r (now (nets .entry)) (now (branches .entry)) (now (block .entry)) (now (reached .entry)) (now (src .exit)) (now (outs .exit)) (now (list .exit)) ⌝ }
+    requires { ⌜ Heads (z .inputs) (z .pins) (now branches) (now nets) (now block) ⌝ }
+    requires { ⌜ (y < z .outputs) × (z .outputs ≤ 64) × (z .outputs ≤ z .pins) × (b ≤ 4160) × (tally (relOf (now reached) y) b ≤ 16) ⌝ }
+    requires { ⌜ (length (now outs) ≡ 64) × ((x : ℕ) → getD (now outs) x 0 ≡ 0) × (length (now list) ≡ 16) ⌝ }
+    ensures { λ r. ⌜ Benched y (z .inputs) (z .outputs) (z .pins) b r (now (nets .entry)) (now (branches .entry)) (now (block .entry)) (now (reached .entry)) (now (src .exit)) (now (outs .exit)) (now (list .exit)) ⌝ }
 {
     let mut slots = [0u16; BLOCKS];
-    let w = slots::variables(z, b, reached, &mut slots);
-    slots::pin_slots(i, n, &slots, branches, nets, block, src);
-    out_slots(o, n, src, outs);
-    block_list(z, b, reached, list);
+    let w = slots::variables(y, b, reached, &mut slots);
+    slots::pin_slots(z.inputs, z.pins, &slots, branches, nets, block, src);
+    out_slots(z.outputs, z.pins, src, outs);
+    block_list(y, b, reached, list);
     w
 }
 
-// The tables of a chip whose blocks are numbered. There are as many readers as pins of cells.
+// The tables of a chip of class 2 or 3. There are as many readers as pins of cells. The kinds are lent for their number.
 pub fn chip_tables(
-    i: usize,
-    c: usize,
-    o: usize,
-    n: usize,
+    z: Sizes,
     kinds: &[u8],
     counts: &Counts,
     firsts: &Firsts,
@@ -155,21 +150,19 @@ pub fn chip_tables(
     readers: &mut [u16],
     input: &mut [u8],
 )
-    requires { ⌜ InLimits (tabled i c o (now kinds) (now counts) (now nets)) ⌝ }
-    requires { ⌜ n ≡ allPins (tabled i c o (now kinds) (now counts) (now nets)) ⌝ }
-    requires { ⌜ FirstPins (tabled i c o (now kinds) (now counts) (now nets)) (now firsts) ⌝ }
-    requires { ⌜ Ordered (tabled i c o (now kinds) (now counts) (now nets)) (now order) ⌝ }
-    requires { ⌜ BranchTable (tabled i c o (now kinds) (now counts) (now nets)) (now branches) ⌝ }
-    requires { ⌜ ((b : ℕ) × (b ≤ 4160) × ((low : ℕ → ℕ) × Laid (tabled i c o (now kinds) (now counts) (now nets)) b (now block) low)) ⌝ }
+    requires { ⌜ ((s : Shape) × (reached : List ℕ) × (s .class ≢ 1)
+        × Ready (sized z (now kinds) (now counts) (now nets)) (z .pins) s (now firsts) (now order) (now branches) (now block) reached) ⌝ }
     requires { ⌜ (length (now kinds) ≡ 1024) × (length (now reach) ≡ 1024) × (length (now input) ≡ 4160) ⌝ }
     requires { ⌜ (length (now heads) ≡ 5185) × ((x : ℕ) → getD (now heads) x 0 ≡ 0) ⌝ }
-    requires { ⌜ (length (now readers) ≡ n - o) × ((x : ℕ) → getD (now readers) x 0 ≡ 0) ⌝ }
-    ensures { λ _. ⌜ Fitted i c o n (now (kinds .entry)) (now (counts .entry)) (now (firsts .entry)) (now (nets .entry)) (now (order .entry)) (now (branches .entry)) (now (block .entry)) (now (cone .entry)) (now (reach .exit)) (now (heads .exit)) (now (readers .exit)) (now (input .exit)) ⌝ }
+    requires { ⌜ (length (now readers) ≡ z .pins - z .outputs) × ((x : ℕ) → getD (now readers) x 0 ≡ 0) ⌝ }
+    ensures { λ _. ⌜ Fitted (z .inputs) (z .cells) (z .outputs) (z .pins) (now (kinds .entry)) (now (counts .entry)) (now (firsts .entry)) (now (nets .entry)) (now (order .entry)) (now (branches .entry)) (now (block .entry)) (now (cone .entry)) (now (reach .exit)) (now (heads .exit)) (now (readers .exit)) (now (input .exit)) ⌝ }
 {
-    readers::reaches(c, firsts, order, cone, reach);
+    let o = z.outputs;
+    let n = z.pins;
+    readers::reaches(z.cells, firsts, order, cone, reach);
     readers::build(
-        i,
-        c,
+        z.inputs,
+        z.cells,
         n - o,
         counts,
         firsts,
@@ -180,5 +173,5 @@ pub fn chip_tables(
         heads,
         readers,
     );
-    block_inputs(i, n, branches, block, input);
+    block_inputs(z.inputs, n, branches, block, input);
 }

@@ -19,10 +19,9 @@ use Rattle.flip.proofs.Flips.{run-lane}
 use Rattle.bridge.specs.Chunk.{Chunk}
 use Rattle.faults.specs.Numbers.{faultNumber}
 use Rattle.bridge.proofs.Bridge.{lane}
-use Rattle.known.specs.Setting.{Shows, Setting, Long}
-use Rattle.alone.specs.Alone.{runLane, Went}
-use Rattle.alone.proofs.Steps.{looked-idle, looked-kept, looked-advance, went-both, went-same}
-use Rattle.alone.proofs.Runs.{start-of, rules-of}
+use Rattle.known.specs.Setting.{Shows, Setting, Long, runLane, Went}
+use Rattle.known.proofs.Steps.{looked-idle, looked-kept, looked-advance, went-both, went-same}
+use Rattle.known.proofs.Runs.{start-of, rules-of}
 use Rattle.rows.proofs.Bits.{meet}
 use Rattle.buffers.specs.Buffers.{Tables, Faulty, FaultRan, FaultStep, BufferFault, PadFault}
 use Rattle.buffers.proofs.Slots.{chunk-kept}

@@ -9,7 +9,8 @@ use native.Mathlib.Decide.{decLt}
 use borrow.Author.Tests.{lt-ltb, le-ltb}
 use lib.ListN.{length, getD}
 use lib.Seq.{ext-getD}
-use Rattle.chip.specs.Netlist.{InLimits, firstPin, allPins}
+use Rattle.chip.specs.Netlist.{firstPin, allPins}
+use Rattle.chip.specs.Inner.Limits.{InLimits}
 use Rattle.chip.specs.Inner.Tables.{tabled, FirstPins}
 use Rattle.chip.specs.Faults.{stuck}
 use Rattle.chip.specs.declared.Fault.{Fault}
@@ -23,7 +24,7 @@ use Rattle.events.specs.Events.{Chip, Worked}
 use Rattle.homes.specs.Homes.{Looked}
 use Rattle.bridge.specs.Chunk.{Chunk}
 use Rattle.faults.specs.Numbers.{faultNumber}
-use Rattle.alone.specs.Alone.{runLane}
+use Rattle.known.specs.Setting.{runLane}
 use Rattle.buffers.specs.Buffers.{Tables, Faulty, FaultRan}
 
 pub faulty-is : (i c o n f : ℕ) (h : Fault) (kinds counts nets src decided faulty : List ℕ) → h ≡ faultNumber (i + c) f → Decided (tabled i c o kinds counts nets) (stuck h) decided

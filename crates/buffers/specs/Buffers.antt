@@ -5,7 +5,8 @@ use mathlib.Core.Logic.{_⊎_}
 use mathlib.Core.Bool.{Bool}
 use mathlib.Core.List.{List}
 use lib.ListN.{getD}
-use Rattle.chip.specs.Netlist.{InLimits, outPin, allPins}
+use Rattle.chip.specs.Netlist.{outPin, allPins}
+use Rattle.chip.specs.Inner.Limits.{InLimits}
 use Rattle.chip.specs.Inner.Tables.{tabled, FirstPins, BranchTable}
 use Rattle.chip.specs.Faults.{stuck}
 use Rattle.order.specs.Order.{Ordered}
@@ -14,8 +15,7 @@ use Rattle.slots.specs.Slots.{FaultSlots}
 use Rattle.events.specs.Events.{Chip, Worked}
 use Rattle.homes.specs.Homes.{Looked}
 use Rattle.faults.specs.Numbers.{faultNumber}
-use Rattle.known.specs.Setting.{Shows, Setting, Advance, GoodRun}
-use Rattle.alone.specs.Alone.{runLane}
+use Rattle.known.specs.Setting.{Shows, Setting, Advance, GoodRun, runLane}
 
 -- the tables of a prepared chip, with the slots of its pins and outputs, and the good words
 pub record Tables (i c o n q g : ℕ) (kinds counts firsts nets order branches reach src outs goods : List ℕ) : Type 0 where

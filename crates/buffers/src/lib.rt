@@ -4,19 +4,19 @@ ghost use mathlib.Core.Path.{_≡_};
 ghost use mathlib.Core.List.{List};
 ghost use Prim.Native.Nat.{ℕ, _+_, _-_, _*_, _/_, _≤_, _<_};
 ghost use lib.ListN.{length, getD};
-ghost use Rattle.chip.specs.Netlist.{allPins, InLimits};
+ghost use Rattle.chip.specs.Netlist.{allPins};
+ghost use Rattle.chip.specs.Inner.Limits.{InLimits};
 ghost use Rattle.chip.specs.Inner.Tables.{tabled, FirstPins, BranchTable};
 ghost use Rattle.order.specs.Order.{Ordered};
 ghost use Rattle.events.specs.Events.{Chip};
-ghost use Rattle.faults.specs.Numbers.{faultNumber};
-ghost use Rattle.known.specs.Setting.{Long};
-ghost use Rattle.alone.specs.Alone.{Went};
+ghost use Rattle.known.specs.Setting.{Long, Went};
 ghost use Rattle.buffers.specs.Buffers.{Tables, Faulty, FaultRan, FaultStep, BufferFault, PadFault};
 use chip::Branches;
 use chip::Counts;
 use chip::Firsts;
 use chip::Kinds;
 use chip::Nets;
+use chip::OUTPUTS;
 use chip::Order;
 use chip::PINS;
 use chip::wide;
@@ -91,10 +91,10 @@ fn run_fault(
     ensures { λ _. ⌜ FaultRan c o n f q u (now (kinds .entry)) (now (counts .entry)) (now (firsts .entry)) (now (faulty .entry)) (now (order .entry)) (now (reach .entry)) (now (outs .entry)) (now (goods .entry)) (now (left .entry)) (now (best .entry)) (now (pat .entry)) (now (left .exit)) (now (best .exit)) (now (pat .exit)) ⌝ }
     ensures { λ _. ⌜ now (vals .exit) ≡ now (goods .entry) ⌝ }
 {
-    let mut ends = [0u16; 64];
+    let mut ends = [0u16; OUTPUTS];
     homes::copy_pins(n - o, o, faulty, &mut ends);
     events::good_cells(c, u, kinds, counts, firsts, faulty, order, reach, vals);
-    alone::look_all(f, q, u, outs, &ends, goods, vals, left, best, pat);
+    known::look_all(f, q, u, outs, &ends, goods, vals, left, best, pat);
     events::copy_words(16672, goods, vals);
 }
 

@@ -8,7 +8,7 @@ ghost use mathlib.Core.Logic.{_≢_};
 ghost use mathlib.Core.List.{List};
 ghost use Prim.Native.Nat.{ℕ, _+_};
 ghost use Rattle.chip.specs.Format.{readOf};
-ghost use Rattle.chip.specs.Inner.Tables.{tabled};
+ghost use Rattle.chip.specs.Inner.Tables.{sized};
 ghost use Rattle.chip.specs.Replies.{ClassOn, ClassReply, TransformOn, TransformReply, SetOn, SetReply, ReadOn, ReadReply, CheckOn, CheckReply, SearchOn, SearchReply};
 ghost use Rattle.netlist.specs.Answer.{tablesOf};
 ghost use Rattle.opening.specs.Open.{netlistOf, IsOpen, OpenIs};
@@ -19,12 +19,14 @@ use chip::Checked;
 use chip::Classed;
 use chip::FAULTS;
 use chip::Fault;
+use chip::OutputWidths;
 use chip::ReadBack;
 use chip::SITES;
 use chip::Searched;
 use chip::Setting;
+use chip::Sizes;
 use chip::Transformed;
-use netlist::Sizes;
+use chip::VariableTable;
 use netlist::Tables;
 use opening::Chip;
 use search::Findings;
@@ -101,6 +103,7 @@ pub fn open(file: &[u8]) -> Chip
     opening::open(file)
 }
 
+// Names the class of an open chip, with its depth and the number of its blocks. Refuses nothing.
 pub fn class_on(opened: Chip) -> Classed
     requires { ⌜ IsOpen opened ⌝ }
     ensures { λ r. ⌜ ClassOn (netlistOf opened) r ⌝ }
@@ -108,6 +111,7 @@ pub fn class_on(opened: Chip) -> Classed
     opening::class_on(opened)
 }
 
+// Writes the transformed circuit of an open chip as a file and answers its length. Refuses 17, 2, 7, 15.
 pub fn transform_on(opened: Chip, out: &mut [u8]) -> Transformed
     requires { ⌜ IsOpen opened ⌝ }
     ensures { λ r. ⌜ TransformOn (netlistOf opened) (now (out .entry)) (r, now (out .exit)) ⌝ }
@@ -115,6 +119,7 @@ pub fn transform_on(opened: Chip, out: &mut [u8]) -> Transformed
     transform::transform_on(opened, out)
 }
 
+// Sets a pattern on the clocks for an output of an open chip, and answers the length of the play. Refuses 13, 11, 14, 18, 15.
 pub fn set_on(opened: Chip, output: usize, pattern: &[u8], play: &mut [u8]) -> Setting
     requires { ⌜ IsOpen opened ⌝ }
     ensures { λ r. ⌜ SetOn (netlistOf opened) output (now (pattern .entry)) (now (play .entry)) (r, now (play .exit)) ⌝ }
@@ -122,6 +127,7 @@ pub fn set_on(opened: Chip, output: usize, pattern: &[u8], play: &mut [u8]) -> S
     clocks::set_on(opened, output, pattern, play)
 }
 
+// Reads back the pattern that an output of an open chip sees at a clock of a play. Refuses 13, 11, 14, 18, 19, 15.
 pub fn read_on(
     opened: Chip,
     output: usize,
@@ -135,6 +141,7 @@ pub fn read_on(
     clocks::read_on(opened, output, play, clock, pattern)
 }
 
+// Checks a play against a fault of an open chip. Refuses 12, 14, 18.
 pub fn check_on(opened: Chip, fault: Fault, play: &[u8]) -> Checked
     requires { ⌜ IsOpen opened ⌝ }
     ensures { λ r. ⌜ CheckOn (netlistOf opened) fault (now (play .entry)) r ⌝ }
@@ -142,6 +149,7 @@ pub fn check_on(opened: Chip, fault: Fault, play: &[u8]) -> Checked
     checking::check_on(opened, fault, play)
 }
 
+// Searches a play for a fault of an open chip. Refuses 12, 11, 16, 15.
 pub fn search_on(opened: Chip, fault: Fault, play: &mut [u8]) -> Searched
     requires { ⌜ IsOpen opened ⌝ }
     ensures { λ r. ⌜ SearchOn (netlistOf opened) fault (now (play .entry)) (r, now (play .exit)) ⌝ }
@@ -171,17 +179,17 @@ pub fn search_listed<'a>(
     f: usize,
     wides: u64,
     sites: &'a [u64; SITES],
-    widths: &'a [u16; 64],
+    widths: &'a OutputWidths,
     best: &'a [u8; FAULTS],
     pat: &'a [u32; FAULTS],
-    spots: &'a [u16; 1024],
+    spots: &'a VariableTable,
     play: &mut [u8],
 ) -> Searched
     requires { ⌜ ((kinds : List ℕ) × (counts : List ℕ) × (nets : List ℕ) × (reached : List ℕ) × Looked z s f wides (now sites) (now widths) (now best) (now pat) kinds counts nets reached
-        × Spots (tabled (z .inputs) (z .cells) (z .outputs) kinds counts nets) (s .depth) reached (now spots)) ⌝ }
+        × Spots (sized z kinds counts nets) (s .depth) reached (now spots)) ⌝ }
     ensures { λ r. ⌜ ((kinds counts nets reached : List ℕ) → Looked z s f wides (now (sites .entry)) (now (widths .entry)) (now (best .entry)) (now (pat .entry)) kinds counts nets reached
-        → Spots (tabled (z .inputs) (z .cells) (z .outputs) kinds counts nets) (s .depth) reached (now (spots .entry))
-        → SearchOn (tabled (z .inputs) (z .cells) (z .outputs) kinds counts nets) (faultNumber (z .inputs + z .cells) f) (now (play .entry)) (r, now (play .exit))) ⌝ }
+        → Spots (sized z kinds counts nets) (s .depth) reached (now (spots .entry))
+        → SearchOn (sized z kinds counts nets) (faultNumber (z .inputs + z .cells) f) (now (play .entry)) (r, now (play .exit))) ⌝ }
 {
     search::search_listed(z, s, f, wides, sites, widths, best, pat, spots, play)
 }

@@ -7,7 +7,7 @@ ghost use Rattle.events.specs.Events.{marked, Chip, Marks, Agree, Restored};
 ghost use Rattle.homes.specs.Homes.{Home, LookedHome, HomeLanes};
 ghost use Rattle.cells.specs.Cells.{Good, Clear, FlipRan, HomeTried, Back};
 use chip::wide;
-use chip::wide8;
+use rows::ROW;
 
 // Marks the readers of cell j.
 fn mark_readers(j: usize, u: u64, heads: &[u16], readers: &[u16], reach: &[u64], marks: &mut [u64])
@@ -250,7 +250,7 @@ pub fn try_home(
     ensures { λ _. ⌜ HomeTried c u p q kind net pin j a n (now (kinds .entry)) (now (counts .entry)) (now (firsts .entry)) (now (src .entry)) (now (order .entry)) (now (reach .entry)) (now (outs .entry)) (now (goods .entry)) (now (left .entry)) (now (best .entry)) (now (pat .entry)) (now (left .exit)) (now (best .exit)) (now (pat .exit)) ⌝ }
     ensures { λ _. ⌜ Back (now (goods .entry)) (now (vals .exit)) (now (marks .exit)) (now (changed .exit)) ⌝ }
 {
-    let mut acc = [0u64; 16];
+    let mut acc = [0u64; ROW];
     homes::home_lanes(kind, net, pin, 16 + j, a, n, u, src, left, goods, &mut acc);
     if homes::any(&acc) {
         flip_look(

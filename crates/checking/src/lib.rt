@@ -3,7 +3,6 @@ ghost use Rattle.chip.specs.Faults.{FaultIn, stuck, IsPlay};
 ghost use Rattle.chip.specs.Replies.{CheckOn, CheckReply};
 ghost use Rattle.opening.specs.Open.{netlistOf, IsOpen};
 ghost use Rattle.running.specs.Verdict.{Verdict};
-use chip::CELLS;
 use chip::Checked;
 use chip::Fault;
 use opening::Chip;
@@ -18,28 +17,20 @@ fn run_on(opened: Chip, fault: Fault, play: &[u8], n: usize) -> Look
 {
     let z = opened.sizes;
     let s = opened.shape;
-    let mut gates = [0u16; CELLS];
-    let mut flops = [0u16; CELLS];
-    let g = running::pick(&opened.kinds, &opened.order, z.cells, false, &mut gates);
-    let f = running::pick(&opened.kinds, &opened.order, z.cells, true, &mut flops);
-    let site = fault.site;
+    let gates = running::pick(z.cells, &opened.kinds, &opened.order, false);
+    let flops = running::pick(z.cells, &opened.kinds, &opened.order, true);
     running::run_clocks(
-        z.inputs,
-        z.cells,
-        z.outputs,
+        z,
+        s.depth,
+        n,
         &opened.kinds,
         &opened.counts,
-        &opened.nets,
         &opened.firsts,
-        &gates,
-        g,
-        &flops,
-        f,
-        s.depth,
-        site,
-        fault.stuck,
+        &opened.nets,
+        gates,
+        flops,
+        fault,
         play,
-        n,
     )
 }
 

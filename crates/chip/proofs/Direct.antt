@@ -7,7 +7,8 @@ use native.Mathlib.Omega.{arith}
 use native.Mathlib.Decide.{decLt}
 use borrow.Author.Tests.{lt-ltb, le-ltb, le-leb, lt-leb}
 use lib.Dec.{ltb, leb}
-use Rattle.chip.specs.Netlist.{Netlist, Sound, PinOf, firstPin, outPin, allPins, gate}
+use Rattle.chip.specs.Netlist.{Netlist, PinOf, firstPin, outPin, allPins, gate}
+use Rattle.chip.specs.Inner.Limits.{Sound}
 use Rattle.chip.specs.Pads.{isBuf, fed, source, intoPad, branchOf}
 use Rattle.chip.specs.Class.{Reach, here, on, delay, Within, Blocks}
 use Rattle.chip.specs.Transformed.{transformed, opened, oldCell, netFor, home, copies, flat}

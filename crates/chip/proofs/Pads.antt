@@ -7,7 +7,8 @@ use native.Mathlib.Omega.{arith}
 use native.Mathlib.Decide.{decLt, ℕ-discrete}
 use borrow.Author.Tests.{lt-ltb, le-ltb, le-leb, lt-leb, eqb-true, eq-eqb}
 use lib.Dec.{eqb, ltb}
-use Rattle.chip.specs.Netlist.{Netlist, Sound, PinOf, firstPin, outPin, takes, InLimits}
+use Rattle.chip.specs.Netlist.{Netlist, PinOf, firstPin, outPin, takes}
+use Rattle.chip.specs.Inner.Limits.{Sound, InLimits}
 use Rattle.chip.specs.Pads.{some, isBuf, fed, back, source, padBuffer, intoPad, branchOf}
 use Rattle.chip.proofs.Bools.{both-true, clash, fails}
 use Rattle.chip.proofs.Basics.{Ranked, sum-up, first-pin, pin-named, net-cases}

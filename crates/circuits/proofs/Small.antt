@@ -8,7 +8,8 @@ use lib.ListN.{length, getD}
 use lib.Dec.{T, leb, eqb, leb→le}
 use native.Mathlib.Omega.{arith}
 use native.Mathlib.Decide.{decLe, decLt, ℕ-discrete}
-use Rattle.chip.specs.Netlist.{Netlist, Sound, InLimits, allPins, sumBelow, takes, gate, isFlop}
+use Rattle.chip.specs.Netlist.{Netlist, allPins, sumBelow, takes, gate, isFlop}
+use Rattle.chip.specs.Inner.Limits.{Sound, InLimits}
 use Rattle.chip.specs.Got.{Got, refused, got}
 use Rattle.chip.specs.Format.{Parsed, readOf, countAt, wordAt, byteAt, inputs, padAt, isIn, cells, cell, kindAt, pinCountAt, pins, netAt, ending, outputs, chipOf}
 use Rattle.chip.specs.File.{fileOf, transformedFile}

@@ -9,7 +9,7 @@ use Rattle.chip.specs.Netlist.{Netlist}
 use Rattle.chip.specs.Class.{Lowest, Prepared, Blocks, blocks}
 use Rattle.chip.specs.Faults.{AllBits}
 use Rattle.chip.specs.Clocks.{patternOf}
-use Rattle.chip.specs.Refusals.{Step, refuses, goes-on, At, prepared, When11, Clocks, When18, When19, Short, leaving}
+use Rattle.chip.specs.Refusals.{Step, refuses, goes-on, At, prepared, Clocks, When18, When19, Short, leaving}
 use Rattle.chip.specs.Replies.{PlaySet, SetsPlay, SetOn, PatternRead, ReadsPattern, ReadOn}
 use Rattle.chip.specs.declared.Setting.{Setting}
 use Rattle.chip.specs.declared.Setting.the-variants as Setting
@@ -28,10 +28,10 @@ module _ (t : Chip) (o : IsOpen t) (output : ℕ) where
   d = t .shape .depth
 
   abbrev B : Blocks
-  B = blocks N (o .shaped .low)
+  B = blocks N (o .ready .shaped .low)
 
-  P : Prepared N d (o .shaped .low) (t .shape .class)
-  P = o .shaped .prepared
+  P : Prepared N d (o .ready .shaped .low) (t .shape .class)
+  P = o .ready .shaped .prepared
 
   there : output < N .outs → (p : ℕ) → ¬ At 0 (N .outs ≤ output) p
   there l p w = omega (arith, w .holds)
@@ -42,16 +42,16 @@ module _ (t : Chip) (o : IsOpen t) (output : ℕ) where
     set-13 h = prepared P (refuses (record { there = refl; holds = h }))
 
     pub set-11 : output < N .outs → t .shape .class ≡ 1 → SetOn N output pattern entry (Setting.Refused 11 (t .shape .place), entry)
-    set-11 l e = prepared P (goes-on (there l) (refuses (o .shaped .place e)))
+    set-11 l e = prepared P (goes-on (there l) (refuses (o .ready .shaped .place e)))
 
     module _ (l : output < N .outs) (g : t .shape .class ≢ 1) where
       pub set-14 : length pattern ≢ t .shape .blocks → SetOn N output pattern entry (Setting.Refused 14 (length pattern), entry)
-      set-14 h = prepared P (goes-on (there l) (goes-on (not-uneven P g) (refuses (record { there = refl; holds = λ e. h (e ∙ sym (o .shaped .count)) }))))
+      set-14 h = prepared P (goes-on (there l) (goes-on (not-uneven P g) (refuses (record { there = refl; holds = λ e. h (e ∙ sym (o .ready .shaped .count)) }))))
 
       module _ (e : length pattern ≡ t .shape .blocks) where
         from-18 : {a : Setting × List ℕ} → Step (When18 pattern) (leaving entry Setting.Refused 18) (Step (Short entry (suc d * N .inputs)) (leaving entry Setting.Refused 15) (SetsPlay N B d output pattern entry)) a
             → SetOn N output pattern entry a
-        from-18 r = prepared P (goes-on (there l) (goes-on (not-uneven P g) (goes-on (λ p w. w .holds (e ∙ o .shaped .count)) r)))
+        from-18 r = prepared P (goes-on (there l) (goes-on (not-uneven P g) (goes-on (λ p w. w .holds (e ∙ o .ready .shaped .count)) r)))
 
         pub set-18 : (k : ℕ) → When18 pattern k → SetOn N output pattern entry (Setting.Refused 18 k, entry)
         set-18 k w = from-18 (refuses w)
@@ -61,7 +61,7 @@ module _ (t : Chip) (o : IsOpen t) (output : ℕ) where
 
         pub set-done : (exit : List ℕ) → AllBits pattern → suc d * N .inputs ≤ length entry → ((low : ℕ → ℕ) → Lowest N low → PlaySet N (blocks N low) d output (patternOf pattern) entry exit)
             → SetOn N output pattern entry (Setting.Set (suc d * N .inputs), exit)
-        set-done exit bits room p = from-18 (goes-on (not-above bits) (goes-on (λ q w. omega (arith, w .holds)) (refl, p (o .shaped .low) (P .lowest))))
+        set-done exit bits room p = from-18 (goes-on (not-above bits) (goes-on (λ q w. omega (arith, w .holds)) (refl, p (o .ready .shaped .low) (P .lowest))))
 
   -- reading back
   module _ (play : List ℕ) (clock : ℕ) (entry : List ℕ) where
@@ -69,7 +69,7 @@ module _ (t : Chip) (o : IsOpen t) (output : ℕ) where
     read-13 h = prepared P (refuses (record { there = refl; holds = h }))
 
     pub read-11 : output < N .outs → t .shape .class ≡ 1 → ReadOn N output play clock entry (ReadBack.Refused 11 (t .shape .place), entry)
-    read-11 l e = prepared P (goes-on (there l) (refuses (o .shaped .place e)))
+    read-11 l e = prepared P (goes-on (there l) (refuses (o .ready .shaped .place e)))
 
     module _ (l : output < N .outs) (g : t .shape .class ≢ 1) where
       pub read-14 : ((n : ℕ) → ¬ Clocks (N .inputs) play n) → ReadOn N output play clock entry (ReadBack.Refused 14 (length play), entry)
@@ -93,12 +93,12 @@ module _ (t : Chip) (o : IsOpen t) (output : ℕ) where
             where
               go : ¬ ((clock < d) ⊎ (m ≤ clock))
               go (inl h) = omega arith
-              go (inr h) = omega (arith, one-count (N .inputs) play n m (o .limits .some-input) C (w .clocks))
+              go (inr h) = omega (arith, one-count (N .inputs) play n m (o .ready .limits .some-input) C (w .clocks))
 
           pub read-15 : length entry < t .shape .blocks → ReadOn N output play clock entry (ReadBack.Refused 15 (t .shape .blocks), entry)
-          read-15 h = back-18 (goes-on (not-above bits) (goes-on in-time (refuses (record { there = o .shaped .count; holds = subst (λ b. length entry < b) (o .shaped .count) h }))))
+          read-15 h = back-18 (goes-on (not-above bits) (goes-on in-time (refuses (record { there = o .ready .shaped .count; holds = subst (λ b. length entry < b) (o .ready .shaped .count) h }))))
 
           pub read-done : (exit : List ℕ) → t .shape .blocks ≤ length entry → ((low : ℕ → ℕ) → Lowest N low → PatternRead N (blocks N low) d output clock play entry exit)
               → ReadOn N output play clock entry (ReadBack.Read (t .shape .blocks), exit)
           read-done exit room p =
-              back-18 (goes-on (not-above bits) (goes-on in-time (goes-on (λ q w. omega (arith, w .holds, o .shaped .count)) (ap ReadBack.Read (o .shaped .count), p (o .shaped .low) (P .lowest)))))
+              back-18 (goes-on (not-above bits) (goes-on in-time (goes-on (λ q w. omega (arith, w .holds, o .ready .shaped .count)) (ap ReadBack.Read (o .ready .shaped .count), p (o .ready .shaped .low) (P .lowest)))))

@@ -32,11 +32,8 @@ pub fn set_on(opened: Chip, output: usize, pattern: &[u8], play: &mut [u8]) -> S
         return Setting::Refused(15, long);
     }
     sweeps::set_play(
-        z.inputs,
-        z.cells,
-        z.outputs,
-        z.pins,
-        s.depth,
+        z,
+        s,
         output,
         &opened.kinds,
         &opened.counts,
@@ -85,15 +82,11 @@ pub fn read_on(
     if pattern.len() < s.blocks {
         return ReadBack::Refused(15, s.blocks);
     }
+    let from = (clock - s.depth) * z.inputs;
     sweeps::read_play(
-        z.inputs,
-        z.cells,
-        z.outputs,
-        z.pins,
-        s.depth,
+        z,
+        s,
         output,
-        clock,
-        s.blocks,
         &opened.kinds,
         &opened.counts,
         &opened.firsts,
@@ -101,7 +94,7 @@ pub fn read_on(
         &opened.order,
         &opened.branches,
         &opened.block,
-        play,
+        &play[from..],
         pattern,
     );
     ReadBack::Read(s.blocks)

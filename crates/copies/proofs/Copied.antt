@@ -5,7 +5,8 @@ use mathlib.Core.Bool.{Bool, true, false, not, _&&_}
 use native.Mathlib.Omega.{arith}
 use borrow.Author.Tests.{lt-ltb, le-leb, eq-eqb, ne-eqb, eqb-true, leb-true}
 use lib.Dec.{eqb, leb, ltb}
-use Rattle.chip.specs.Netlist.{Netlist, InLimits, allPins}
+use Rattle.chip.specs.Netlist.{Netlist, allPins}
+use Rattle.chip.specs.Inner.Limits.{InLimits}
 use Rattle.chip.specs.Pads.{some, back, branchOf}
 use Rattle.chip.specs.Class.{LoopFree, Blocks}
 use Rattle.chip.specs.Transformed.{onWay, copied}

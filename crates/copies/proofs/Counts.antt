@@ -8,7 +8,8 @@ use native.Mathlib.Nat.{add-zero, add-suc}
 use borrow.Author.Tests.{leb-true}
 use lib.Dec.{eqb, leb, ltb}
 use lib.ListN.{length, getD}
-use Rattle.chip.specs.Netlist.{Netlist, InLimits, sumBelow, allPins, bit}
+use Rattle.chip.specs.Netlist.{Netlist, sumBelow, allPins, bit}
+use Rattle.chip.specs.Inner.Limits.{InLimits}
 use Rattle.chip.specs.Pads.{some, back, branchOf}
 use Rattle.chip.specs.Class.{LoopFree, Lowest, Blocks, blocks, tally}
 use Rattle.chip.specs.Transformed.{onWay, copied, copiesOf, copies, copyAt}

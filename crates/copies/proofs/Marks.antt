@@ -11,7 +11,8 @@ use borrow.Author.Tests.{lt-ltb, le-ltb, le-leb, lt-leb, eq-eqb, ne-eqb}
 use lib.Dec.{eqb, leb}
 use lib.ListN.{length, getD, set, length-set}
 use lib.Seq.{getD-set-same, getD-set-other}
-use Rattle.chip.specs.Netlist.{Netlist, InLimits, firstPin, allPins, bit}
+use Rattle.chip.specs.Netlist.{Netlist, firstPin, allPins, bit}
+use Rattle.chip.specs.Inner.Limits.{InLimits}
 use Rattle.chip.specs.Pads.{some, isBuf, fed, back, source, branchOf}
 use Rattle.chip.specs.Class.{LoopFree, Blocks}
 use Rattle.chip.specs.Transformed.{onWay}

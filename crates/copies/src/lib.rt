@@ -1,42 +1,40 @@
 // The copies of pad buffers in the transformed circuit: each block that is not its input's lowest has its own of those on its way.
 ghost use mathlib.Core.Path.{_≡_};
+ghost use mathlib.Core.List.{List};
 ghost use Prim.Native.Nat.{ℕ, _+_, _≤_, _<_};
 ghost use lib.ListN.{length, getD};
-ghost use Rattle.chip.specs.Netlist.{sumBelow, allPins, InLimits};
+ghost use Rattle.chip.specs.Netlist.{Netlist, sumBelow, allPins};
+ghost use Rattle.chip.specs.Inner.Limits.{InLimits};
 ghost use Rattle.chip.specs.Pads.{branchOf};
-ghost use Rattle.chip.specs.Inner.Tables.{tabled, FirstPins, BranchTable};
-ghost use Rattle.chip.specs.Class.{LoopFree, Lowest, blocks};
-ghost use Rattle.copies.specs.Inner.Marks.{WayMarked, FlatMarks, FirstBlocks, NextBlock, LowestBlocks, Copies};
+ghost use Rattle.chip.specs.Inner.Tables.{tabled, BranchTable};
+ghost use Rattle.chip.specs.Class.{Lowest, blocks};
+ghost use Rattle.copies.specs.Inner.Marks.{Way, Ways, WayMarked, FlatMarks, FirstBlocks, NextBlock, LowestBlocks, Copies};
 ghost use Rattle.blocks.specs.Labels.{BlockTable, Numbered};
 use chip::Block;
 use chip::Branches;
-use chip::Counts;
 use chip::Firsts;
-use chip::Kinds;
+use chip::INPUTS;
 use chip::Nets;
 use chip::wide;
 use chip::wide8;
+
+// A mark for each block and cell: the transformed circuit has at most 64 blocks.
+pub const COPIES: usize = 65536;
 
 // Marks the pad buffers on the way to branch p, that of cell 0 at place `base`: steps back from its net to the input, at most c.
 fn mark_way(
     i: usize,
     c: usize,
-    o: usize,
-    kinds: &Kinds,
-    counts: &Counts,
-    firsts: &Firsts,
-    nets: &Nets,
     p: usize,
     base: usize,
+    firsts: &Firsts,
+    nets: &Nets,
     marks: &mut [u8],
 )
-    requires { ⌜ InLimits (tabled i c o (now kinds) (now counts) (now nets)) ⌝ }
-    requires { ⌜ LoopFree (tabled i c o (now kinds) (now counts) (now nets)) ⌝ }
-    requires { ⌜ FirstPins (tabled i c o (now kinds) (now counts) (now nets)) (now firsts) ⌝ }
-    requires { ⌜ p < allPins (tabled i c o (now kinds) (now counts) (now nets)) ⌝ }
-    requires { ⌜ branchOf (tabled i c o (now kinds) (now counts) (now nets)) p < i ⌝ }
+    requires { ⌜ ((o : ℕ) × (kinds : List ℕ) × (counts : List ℕ) × Way (tabled i c o kinds counts (now nets)) (now firsts) p) ⌝ }
     requires { ⌜ (base + c ≤ length (now marks)) × (length (now marks) ≤ 65536) ⌝ }
-    ensures { λ _. ⌜ WayMarked (tabled i c o (now (kinds .entry)) (now (counts .entry)) (now (nets .entry))) p base (now (marks .entry)) (now (marks .exit)) ⌝ }
+    ensures { λ _. ⌜ ((o : ℕ) (kinds counts : List ℕ) → Way (tabled i c o kinds counts (now (nets .entry))) (now (firsts .entry)) p
+        → WayMarked (tabled i c o kinds counts (now (nets .entry))) p base (now (marks .entry)) (now (marks .exit))) ⌝ }
 {
     let mut net = wide(nets[p]);
     let mut k = 0;
@@ -55,28 +53,23 @@ fn mark_way(
 fn mark_pin(
     i: usize,
     c: usize,
-    o: usize,
-    kinds: &Kinds,
-    counts: &Counts,
+    p: usize,
     firsts: &Firsts,
     nets: &Nets,
     branches: &Branches,
     block: &Block,
-    lowest: &[u16; 64],
-    p: usize,
+    lowest: &[u16; INPUTS],
     marks: &mut [u8],
 )
-    requires { ⌜ InLimits (tabled i c o (now kinds) (now counts) (now nets)) ⌝ }
-    requires { ⌜ LoopFree (tabled i c o (now kinds) (now counts) (now nets)) ⌝ }
-    requires { ⌜ FirstPins (tabled i c o (now kinds) (now counts) (now nets)) (now firsts) ⌝ }
-    requires { ⌜ BranchTable (tabled i c o (now kinds) (now counts) (now nets)) (now branches) ⌝ }
-    requires { ⌜ p < allPins (tabled i c o (now kinds) (now counts) (now nets)) ⌝ }
-    requires { ⌜ (branchOf (tabled i c o (now kinds) (now counts) (now nets)) p < i → getD (now block) p 0 < 64) ⌝ }
+    requires { ⌜ ((o : ℕ) × (n : ℕ) × (kinds : List ℕ) × (counts : List ℕ) × Ways (tabled i c o kinds counts (now nets)) n (now firsts) (now branches)
+        × (p < n) × (branchOf (tabled i c o kinds counts (now nets)) p < i → getD (now block) p 0 < 64)) ⌝ }
     requires { ⌜ length (now marks) ≡ 65536 ⌝ }
-    ensures { λ _. ⌜ (length (now (marks .exit)) ≡ 65536) × ((low : ℕ → ℕ) → BlockTable (tabled i c o (now (kinds .entry)) (now (counts .entry)) (now (nets .entry))) low (now (block .entry))
-        → FirstBlocks (tabled i c o (now (kinds .entry)) (now (counts .entry)) (now (nets .entry))) (blocks (tabled i c o (now (kinds .entry)) (now (counts .entry)) (now (nets .entry))) low) (now (lowest .entry))
-        → FlatMarks (tabled i c o (now (kinds .entry)) (now (counts .entry)) (now (nets .entry))) (blocks (tabled i c o (now (kinds .entry)) (now (counts .entry)) (now (nets .entry))) low) p (now (marks .entry))
-        → FlatMarks (tabled i c o (now (kinds .entry)) (now (counts .entry)) (now (nets .entry))) (blocks (tabled i c o (now (kinds .entry)) (now (counts .entry)) (now (nets .entry))) low) (p + 1) (now (marks .exit))) ⌝ }
+    ensures { λ _. ⌜ (length (now (marks .exit)) ≡ 65536) × ((o n : ℕ) (kinds counts : List ℕ) (low : ℕ → ℕ) → p < n
+        → Ways (tabled i c o kinds counts (now (nets .entry))) n (now (firsts .entry)) (now (branches .entry))
+        → BlockTable (tabled i c o kinds counts (now (nets .entry))) low (now (block .entry))
+        → FirstBlocks (tabled i c o kinds counts (now (nets .entry))) (blocks (tabled i c o kinds counts (now (nets .entry))) low) (now (lowest .entry))
+        → FlatMarks (tabled i c o kinds counts (now (nets .entry))) (blocks (tabled i c o kinds counts (now (nets .entry))) low) p (now (marks .entry))
+        → FlatMarks (tabled i c o kinds counts (now (nets .entry))) (blocks (tabled i c o kinds counts (now (nets .entry))) low) (p + 1) (now (marks .exit))) ⌝ }
 {
     let x = wide(branches[p]);
     if i <= x {
@@ -86,52 +79,32 @@ fn mark_pin(
     if wide(lowest[x]) == b {
         return;
     }
-    mark_way(i, c, o, kinds, counts, firsts, nets, p, 1024 * b, marks);
+    mark_way(i, c, p, 1024 * b, firsts, nets, marks);
 }
 
 // Marks the cells of which each block has copies: place 1024 * b + j stands for block b and cell j.
 fn mark_copies(
     i: usize,
     c: usize,
-    o: usize,
     n: usize,
-    kinds: &Kinds,
-    counts: &Counts,
     firsts: &Firsts,
     nets: &Nets,
     branches: &Branches,
     block: &Block,
-    lowest: &[u16; 64],
+    lowest: &[u16; INPUTS],
     marks: &mut [u8],
 )
-    requires { ⌜ InLimits (tabled i c o (now kinds) (now counts) (now nets)) ⌝ }
-    requires { ⌜ LoopFree (tabled i c o (now kinds) (now counts) (now nets)) ⌝ }
-    requires { ⌜ FirstPins (tabled i c o (now kinds) (now counts) (now nets)) (now firsts) ⌝ }
-    requires { ⌜ BranchTable (tabled i c o (now kinds) (now counts) (now nets)) (now branches) ⌝ }
-    requires { ⌜ n ≡ allPins (tabled i c o (now kinds) (now counts) (now nets)) ⌝ }
-    requires { ⌜ ((p : ℕ) → p < n → branchOf (tabled i c o (now kinds) (now counts) (now nets)) p < i → getD (now block) p 0 < 64) ⌝ }
-    requires { ⌜ length (now marks) ≡ 65536 ⌝ }
-    requires { ⌜ ((l : ℕ) → getD (now marks) l 0 ≡ 0) ⌝ }
-    ensures { λ _. ⌜ ((low : ℕ → ℕ) → BlockTable (tabled i c o (now (kinds .entry)) (now (counts .entry)) (now (nets .entry))) low (now (block .entry))
-        → FirstBlocks (tabled i c o (now (kinds .entry)) (now (counts .entry)) (now (nets .entry))) (blocks (tabled i c o (now (kinds .entry)) (now (counts .entry)) (now (nets .entry))) low) (now (lowest .entry))
-        → FlatMarks (tabled i c o (now (kinds .entry)) (now (counts .entry)) (now (nets .entry))) (blocks (tabled i c o (now (kinds .entry)) (now (counts .entry)) (now (nets .entry))) low) n (now (marks .exit))) ⌝ }
+    requires { ⌜ ((o : ℕ) × (kinds : List ℕ) × (counts : List ℕ) × Ways (tabled i c o kinds counts (now nets)) n (now firsts) (now branches)
+        × ((p : ℕ) → p < n → branchOf (tabled i c o kinds counts (now nets)) p < i → getD (now block) p 0 < 64)) ⌝ }
+    requires { ⌜ (length (now marks) ≡ 65536) × ((l : ℕ) → getD (now marks) l 0 ≡ 0) ⌝ }
+    ensures { λ _. ⌜ ((o : ℕ) (kinds counts : List ℕ) (low : ℕ → ℕ) → Ways (tabled i c o kinds counts (now (nets .entry))) n (now (firsts .entry)) (now (branches .entry))
+        → BlockTable (tabled i c o kinds counts (now (nets .entry))) low (now (block .entry))
+        → FirstBlocks (tabled i c o kinds counts (now (nets .entry))) (blocks (tabled i c o kinds counts (now (nets .entry))) low) (now (lowest .entry))
+        → FlatMarks (tabled i c o kinds counts (now (nets .entry))) (blocks (tabled i c o kinds counts (now (nets .entry))) low) n (now (marks .exit))) ⌝ }
 {
     let mut p = 0;
     while p < n {
-        mark_pin(
-            i,
-            c,
-            o,
-            kinds,
-            counts,
-            firsts,
-            nets,
-            branches,
-            block,
-            lowest,
-            p,
-            marks,
-        );
+        mark_pin(i, c, p, firsts, nets, branches, block, lowest, marks);
         p += 1;
     }
 }
@@ -166,26 +139,11 @@ fn next_block(n: usize, branches: &Branches, block: &Block, x: usize, at: usize)
 }
 
 // The lowest block of each input.
-fn lowest_blocks(
-    i: usize,
-    c: usize,
-    o: usize,
-    n: usize,
-    kinds: &Kinds,
-    counts: &Counts,
-    nets: &Nets,
-    branches: &Branches,
-    block: &Block,
-    table: &mut [u16],
-)
-    requires { ⌜ InLimits (tabled i c o (now kinds) (now counts) (now nets)) ⌝ }
-    requires { ⌜ n ≡ allPins (tabled i c o (now kinds) (now counts) (now nets)) ⌝ }
-    requires { ⌜ BranchTable (tabled i c o (now kinds) (now counts) (now nets)) (now branches) ⌝ }
+fn lowest_blocks(i: usize, n: usize, branches: &Branches, block: &Block, table: &mut [u16])
+    requires { ⌜ ((N : Netlist) × (N .inputs ≡ i) × (n ≡ allPins N) × InLimits N × BranchTable N (now branches) × LowestBlocks N (now block)) ⌝ }
     requires { ⌜ length (now table) ≡ 64 ⌝ }
-    requires { ⌜ LowestBlocks (tabled i c o (now kinds) (now counts) (now nets)) (now block) ⌝ }
-    ensures { λ _. ⌜ ((low : ℕ → ℕ) → Lowest (tabled i c o (now (kinds .entry)) (now (counts .entry)) (now (nets .entry))) low
-        → BlockTable (tabled i c o (now (kinds .entry)) (now (counts .entry)) (now (nets .entry))) low (now (block .entry))
-        → FirstBlocks (tabled i c o (now (kinds .entry)) (now (counts .entry)) (now (nets .entry))) (blocks (tabled i c o (now (kinds .entry)) (now (counts .entry)) (now (nets .entry))) low) (now (table .exit))) ⌝ }
+    ensures { λ _. ⌜ ((N : Netlist) (low : ℕ → ℕ) → N .inputs ≡ i → n ≡ allPins N → BranchTable N (now (branches .entry)) → Lowest N low
+        → BlockTable N low (now (block .entry)) → FirstBlocks N (blocks N low) (now (table .exit))) ⌝ }
 {
     let mut at = 0;
     let mut x = 0;
@@ -216,47 +174,27 @@ fn number_copies(m: usize, marks: &[u8], numbers: &mut [u16]) -> usize
 pub fn find_copies(
     i: usize,
     c: usize,
-    o: usize,
     n: usize,
     b: usize,
-    kinds: &Kinds,
-    counts: &Counts,
     firsts: &Firsts,
     nets: &Nets,
     branches: &Branches,
     block: &Block,
-    lowest: &mut [u16; 64],
+    lowest: &mut [u16; INPUTS],
     marks: &mut [u8],
     numbers: &mut [u16],
 ) -> usize
-    requires { ⌜ InLimits (tabled i c o (now kinds) (now counts) (now nets)) ⌝ }
-    requires { ⌜ LoopFree (tabled i c o (now kinds) (now counts) (now nets)) ⌝ }
-    requires { ⌜ FirstPins (tabled i c o (now kinds) (now counts) (now nets)) (now firsts) ⌝ }
-    requires { ⌜ BranchTable (tabled i c o (now kinds) (now counts) (now nets)) (now branches) ⌝ }
-    requires { ⌜ n ≡ allPins (tabled i c o (now kinds) (now counts) (now nets)) ⌝ }
-    requires { ⌜ LowestBlocks (tabled i c o (now kinds) (now counts) (now nets)) (now block) ⌝ }
+    requires { ⌜ ((o : ℕ) × (kinds : List ℕ) × (counts : List ℕ) × Ways (tabled i c o kinds counts (now nets)) n (now firsts) (now branches)
+        × LowestBlocks (tabled i c o kinds counts (now nets)) (now block)) ⌝ }
     requires { ⌜ (b ≤ 64) × (length (now lowest) ≡ 64) × (length (now marks) ≡ 65536) × (length (now numbers) ≡ 65536) ⌝ }
     requires { ⌜ ((l : ℕ) → getD (now marks) l 0 ≡ 0) ⌝ }
     ensures { λ r. ⌜ r ≤ 65536 ⌝ }
-    ensures { λ r. ⌜ ((low : ℕ → ℕ) → Lowest (tabled i c o (now (kinds .entry)) (now (counts .entry)) (now (nets .entry))) low
-        → Numbered (tabled i c o (now (kinds .entry)) (now (counts .entry)) (now (nets .entry))) low (now (block .entry)) b
-        → Copies (tabled i c o (now (kinds .entry)) (now (counts .entry)) (now (nets .entry))) (blocks (tabled i c o (now (kinds .entry)) (now (counts .entry)) (now (nets .entry))) low)
+    ensures { λ r. ⌜ ((o : ℕ) (kinds counts : List ℕ) (low : ℕ → ℕ) → Ways (tabled i c o kinds counts (now (nets .entry))) n (now (firsts .entry)) (now (branches .entry))
+        → Lowest (tabled i c o kinds counts (now (nets .entry))) low → Numbered (tabled i c o kinds counts (now (nets .entry))) low (now (block .entry)) b
+        → Copies (tabled i c o kinds counts (now (nets .entry))) (blocks (tabled i c o kinds counts (now (nets .entry))) low)
         (now (lowest .exit)) (now (marks .exit)) (now (numbers .exit)) r) ⌝ }
 {
-    lowest_blocks(i, c, o, n, kinds, counts, nets, branches, block, lowest);
-    mark_copies(
-        i,
-        c,
-        o,
-        n,
-        kinds,
-        counts,
-        firsts,
-        nets,
-        branches,
-        block,
-        lowest,
-        marks,
-    );
+    lowest_blocks(i, n, branches, block, lowest);
+    mark_copies(i, c, n, firsts, nets, branches, block, lowest, marks);
     number_copies(1024 * b, marks, numbers)
 }

@@ -9,7 +9,8 @@ use native.Mathlib.Decide.{ℕ-discrete, decLt}
 use native.Mathlib.Nat.{add-zero}
 use lib.ListN.{length, getD}
 use Rattle.chip.proofs.Bools.{fails}
-use Rattle.words.proofs.Lanes.{some-pin, gate-same}
+use Rattle.chip.proofs.Basics.{some-pin}
+use Rattle.words.proofs.Lanes.{gate-same}
 use lib.Bits.{bitAnd}
 use Rattle.words.specs.Lanes.{gateWord}
 use Rattle.rows.specs.Rows.{Filled, onRow}

@@ -9,7 +9,8 @@ use native.Mathlib.Decide.{ℕ-discrete}
 use lib.Dec.{ltb}
 use lib.ListN.{length, getD, set, length-set}
 use lib.Seq.{getD-set-same, getD-set-other}
-use Rattle.chip.specs.Netlist.{Netlist, InLimits, firstPin}
+use Rattle.chip.specs.Netlist.{Netlist, firstPin}
+use Rattle.chip.specs.Inner.Limits.{InLimits}
 use Rattle.chip.specs.Pads.{isBuf, branchOf}
 use Rattle.chip.specs.Faults.{Lines}
 use Rattle.chip.specs.Inner.Direct.{through, comes}

@@ -9,7 +9,8 @@ use native.Mathlib.Decide.{ℕ-discrete, decLt}
 use borrow.Author.Tests.{eq-eqb, ne-eqb, lt-ltb, le-ltb, lt-leb, le-leb}
 use lib.ListN.{getD}
 use lib.Dec.{eqb, ltb, leb}
-use Rattle.chip.specs.Netlist.{Netlist, Sound, PinOf, firstPin, outPin, allPins, gate, sumBelow}
+use Rattle.chip.specs.Netlist.{Netlist, PinOf, firstPin, outPin, allPins, gate, sumBelow}
+use Rattle.chip.specs.Inner.Limits.{Sound}
 use Rattle.chip.specs.Pads.{source, padBuffer, intoPad, branchOf}
 use Rattle.chip.specs.Class.{blocks, tally}
 use Rattle.chip.specs.Transformed.{transformed}

@@ -4,7 +4,8 @@ use mathlib.Core.Path.{_≡_, ap, _∙_}
 use mathlib.Core.Bool.{Bool, true}
 use native.Mathlib.Omega.{arith}
 use borrow.Author.Tests.{lt-ltb, le-ltb}
-use Rattle.chip.specs.Netlist.{Netlist, Sound, firstPin, allPins}
+use Rattle.chip.specs.Netlist.{Netlist, firstPin, allPins}
+use Rattle.chip.specs.Inner.Limits.{Sound}
 use Rattle.chip.specs.Pads.{source, intoPad, branchOf}
 use Rattle.chip.specs.Faults.{Lines}
 use Rattle.chip.specs.Inner.Direct.{through, comes, atPins}

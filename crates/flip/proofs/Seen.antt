@@ -7,7 +7,8 @@ use mathlib.Core.List.{List}
 use native.Mathlib.Omega.{arith}
 use native.Mathlib.Decide.{decLt}
 use lib.ListN.{getD}
-use Rattle.chip.specs.Netlist.{Netlist, Sound, PinOf, firstPin, outPin, allPins, gate}
+use Rattle.chip.specs.Netlist.{Netlist, PinOf, firstPin, outPin, allPins, gate}
+use Rattle.chip.specs.Inner.Limits.{Sound}
 use Rattle.chip.specs.Pads.{source, intoPad, branchOf}
 use Rattle.chip.specs.Class.{Reach, on, blocks, tally, delay}
 use Rattle.chip.specs.Inner.Direct.{directNet, direct}

@@ -5,14 +5,16 @@ use mathlib.Core.Logic.{_≢_}
 use mathlib.Core.Bool.{Bool, true, false}
 use mathlib.Core.List.{List}
 use lib.ListN.{getD}
-use Rattle.chip.specs.Netlist.{Netlist, InLimits, allPins, gate}
+use Rattle.chip.specs.Netlist.{Netlist, allPins, gate}
+use Rattle.chip.specs.Inner.Limits.{InLimits}
 use Rattle.chip.specs.Inner.Tables.{FirstPins}
 use Rattle.chip.specs.Pads.{branchOf}
 use Rattle.chip.specs.Class.{Lowest, Class23, blocks}
 use Rattle.chip.specs.Faults.{ones}
 use Rattle.chip.specs.Search.{digit, width}
 use Rattle.order.specs.Order.{Ordered}
-use Rattle.slots.specs.Slots.{ReachMasks, variable, inCone}
+use Rattle.levels.specs.Levels.{ReachMasks}
+use Rattle.slots.specs.Slots.{variable, inCone}
 
 -- the tables of a prepared chip for output z, with the slot that each pin looks at
 pub record Bed (N : Netlist) (low : ℕ → ℕ) (rel : ℕ → ℕ → Bool) (z : ℕ) (firsts order cone good : List ℕ) : Type 0 where

@@ -18,10 +18,10 @@ use Rattle.bridge.specs.Chunk.{Chunk}
 use Rattle.cells.proofs.Trying.{same-table}
 use Rattle.patterns.specs.Variables.{Variables}
 use Rattle.patterns.proofs.Setting.{chunk-of}
-use Rattle.known.specs.Setting.{Setting, GoodRun}
+use Rattle.known.specs.Setting.{Setting, GoodRun, Went}
 use Rattle.rows.proofs.Bits.{split, meet}
-use Rattle.alone.specs.Alone.{Went, Between, OutStep, InputStep}
-use Rattle.alone.proofs.Steps.{went-both, went-same}
+use Rattle.alone.specs.Alone.{Between, OutStep, InputStep}
+use Rattle.known.proofs.Steps.{went-both, went-same}
 use Rattle.buffers.specs.Buffers.{PadFault, FaultStep}
 use Rattle.places.specs.Places.{PlacesDone, faultOf}
 use Rattle.stages.specs.Stage.{Watch, OutsOnly, Stage}

@@ -10,7 +10,7 @@ use Rattle.chip.specs.Search.{digit}
 use Rattle.known.specs.Known.{None, Open, Found, Known}
 use Rattle.known.specs.Setting.{Advance}
 use Rattle.rows.proofs.Bits.{split, meet}
-use Rattle.groups.specs.Groups.{Sofar}
+use Rattle.outputs.specs.Groups.{Sofar}
 
 -- ---- one chunk more: g has the outputs of the group, u those of them at which some fault is still looked for
 

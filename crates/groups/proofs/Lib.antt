@@ -1,5 +1,4 @@
 pub mod Groups
-pub mod Words
 pub mod Sorts
 pub mod Chunks
 pub mod Trying

@@ -8,7 +8,8 @@ use native.Mathlib.Omega.{arith}
 use native.Mathlib.Decide.{decLt}
 use borrow.Author.Tests.{lt-ltb}
 use lib.ListN.{getD}
-use Rattle.chip.specs.Netlist.{Netlist, InLimits, PinOf, firstPin, allPins, sumBelow}
+use Rattle.chip.specs.Netlist.{Netlist, PinOf, firstPin, allPins, sumBelow}
+use Rattle.chip.specs.Inner.Limits.{InLimits}
 use Rattle.chip.specs.Inner.Tables.{tabled, FirstPins}
 use Rattle.chip.specs.Pads.{padBuffer}
 use Rattle.chip.proofs.Basics.{sum-up}

@@ -16,7 +16,7 @@ use Rattle.known.specs.Setting.{Shows, Long}
 use Rattle.rows.proofs.Bits.{split, meet}
 use Rattle.known.proofs.Chunks.{known-start}
 use Rattle.stages.specs.Stage.{Stage, OutsOnly}
-use Rattle.groups.specs.Groups.{Joined}
+use Rattle.outputs.specs.Groups.{Joined}
 use Rattle.groups.specs.Chunks.{ChunkTried, GroupTried}
 use Rattle.groups.proofs.Groups.{chunk-more}
 use Rattle.groups.proofs.Chunks.{stage-fewer}

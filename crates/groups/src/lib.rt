@@ -1,14 +1,12 @@
 // The outputs in groups with the same blocks behind them, each group over the chunks of its patterns.
 ghost use Prim.Native.Nat.{ℕ, _+_, _*_, _≤_, _<_};
-ghost use lib.ListN.{length, getD};
+ghost use lib.ListN.{getD};
 ghost use mathlib.Core.Bool.{Bool};
 ghost use mathlib.Core.List.{List};
 ghost use Rattle.chip.specs.Inner.Tables.{tabled};
 ghost use Rattle.events.specs.Events.{Chip};
 ghost use Rattle.cells.specs.Cells.{Clear, Back};
-ghost use Rattle.known.specs.Setting.{GoodRun, Long};
-ghost use Rattle.alone.specs.Alone.{Went};
-ghost use Rattle.groups.specs.Groups.{Joined, Alike, Parted};
+ghost use Rattle.known.specs.Setting.{GoodRun, Long, Went};
 ghost use Rattle.stages.specs.Stage.{Watch, OutsOnly, Stage};
 ghost use Rattle.groups.specs.Chunks.{Store, GoodWords, Alone, ChunkStep, ChunkTried, GroupTried};
 use chip::Branches;
@@ -17,42 +15,7 @@ use chip::Firsts;
 use chip::Kinds;
 use chip::Nets;
 use chip::Order;
-use chip::Reached;
-
-// The outputs that some of the first n words has.
-pub fn left_all(n: usize, left: &[u64]) -> u64
-    requires { ⌜ n ≤ length (now left) ⌝ }
-    ensures { λ r. ⌜ Joined n (now (left .entry)) r ⌝ }
-{
-    let mut x = 0u64;
-    for f in 0..n {
-        x = x | left[f];
-    }
-    x
-}
-
-// Those outputs of g that are in the word exactly if output z is.
-fn part(g: u64, word: u64, z: usize) -> u64
-    requires { ⌜ z < 64 ⌝ }
-    ensures { λ r. ⌜ Parted g word z r ⌝ }
-{
-    if words::has_bit(word, z) {
-        return g & word;
-    }
-    g & !word
-}
-
-// Outputs with the same of the b blocks behind them as output z.
-pub fn group_of(z: usize, b: usize, reached: &Reached) -> u64
-    requires { ⌜ (z < 64) × (b ≤ 4160) ⌝ }
-    ensures { λ r. ⌜ Alike b z (now (reached .entry)) r ⌝ }
-{
-    let mut g = 0xffff_ffff_ffff_ffffu64;
-    for k in 0..b {
-        g = part(g, reached[k], z);
-    }
-    g
-}
+use events::MARKS;
 
 // The good words of the chunks from q on for the outputs of u, in both tables.
 fn good_words(
@@ -311,12 +274,12 @@ pub fn try_group(
     ensures { λ _. ⌜ Watch i c (tabled i c o (now (kinds .entry)) (now (counts .entry)) (now (nets .entry))) (now (counts .entry)) (now (firsts .entry)) (now (order .entry)) (now (left .exit)) (now (groups .exit)) ⌝ }
     ensures { λ _. ⌜ GroupTried i c o n w g (now (kinds .entry)) (now (counts .entry)) (now (firsts .entry)) (now (nets .entry)) (now (order .entry)) (now (branches .entry)) (now (sources .entry)) (now (reach .entry)) (now (heads .entry)) (now (readers .entry)) (now (src .entry)) (now (outs .entry)) (now (list .entry)) (now (input .entry)) (now (left .entry)) (now (best .entry)) (now (pat .entry)) (now (left .exit)) (now (best .exit)) (now (pat .exit)) ⌝ }
 {
-    let mut marks = [0u64; 16];
-    let mut changed = [0u64; 16];
+    let mut marks = [0u64; MARKS];
+    let mut changed = [0u64; MARKS];
     let total = 1usize << w;
     let mut q = 0;
     while 64 * q < total {
-        let u = left_all(2 * (i + c + n), left) & g;
+        let u = outputs::left_all(2 * (i + c + n), left) & g;
         if u == 0 {
             return;
         }

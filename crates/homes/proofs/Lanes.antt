@@ -15,7 +15,8 @@ use Rattle.chip.specs.Search.{digit}
 use Rattle.words.specs.Bits.{LowestBit}
 use Rattle.words.specs.Lanes.{gateWord}
 use Rattle.words.proofs.Bits.{digit-or, digit-one, digit-zero, word-zero}
-use Rattle.words.proofs.Lanes.{some-pin, gate-same}
+use Rattle.chip.proofs.Basics.{some-pin}
+use Rattle.words.proofs.Lanes.{gate-same}
 use Rattle.rows.specs.Rows.{Filled, onRow, Pins}
 use Rattle.rows.proofs.Fill.{row-at, fill-same}
 use Rattle.rows.proofs.Bits.{shift, bit-below}

@@ -8,6 +8,7 @@ ghost use lib.Bits.{bitAnd, bitOr, bitXor};
 ghost use Rattle.rows.specs.Rows.{Filled};
 ghost use Rattle.homes.specs.Homes.{pinWord, homeWord, numberOf, Home, laneAt, FirstLane, NextBit, SeenAt, Looked, LookedHome, HomeLanes};
 use chip::wide;
+use rows::ROW;
 
 // Copies n slots from pin a on.
 pub fn copy_pins(a: usize, n: usize, src: &[u16], pins: &mut [u16])
@@ -124,7 +125,7 @@ pub fn seen_at(u: u64, outs: &[u16], goods: &[u64], vals: &[u64]) -> u64
         let z = next(u, at);
         if z < 64 {
             let s = wide(outs[z]);
-            let mut acc = [0u64; 16];
+            let mut acc = [0u64; ROW];
             rows::load(goods, s, &mut acc);
             if rows::differs(&acc, vals, s) {
                 seen = seen | words::one_bit(z);
@@ -205,7 +206,7 @@ pub fn look_home(
     for e in 0..2 * n + 2 {
         let f = number(e, net, pin);
         if left[f] & u != 0 {
-            let mut t = [0u64; 16];
+            let mut t = [0u64; ROW];
             home_diff(e, kind, a, n, h, src, goods, &mut t);
             look(
                 f,
@@ -276,7 +277,7 @@ fn each_lane(
 {
     for e in 0..2 * n + 2 {
         if left[number(e, net, pin)] & u != 0 {
-            let mut t = [0u64; 16];
+            let mut t = [0u64; ROW];
             home_diff(e, kind, a, n, h, src, goods, &mut t);
             join(&t, acc);
         }

@@ -1,2 +1,4 @@
 pub mod Chunks
 pub mod Advance
+pub mod Steps
+pub mod Runs

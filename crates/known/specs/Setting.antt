@@ -1,7 +1,7 @@
 -- What the faults are looked for on in the chunks from q on, at the outputs of a group g, whose blocks are the same.
-use Prim.Native.Nat.{ℕ, _+_, _*_, _≤_, _<_}
+use Prim.Native.Nat.{ℕ, _+_, _*_, _/_, _%_, _≤_, _<_}
 use mathlib.Core.Path.{_≡_}
-use mathlib.Core.Bool.{Bool, true}
+use mathlib.Core.Bool.{Bool, true, xor}
 use mathlib.Core.List.{List}
 use lib.ListN.{length, getD}
 use lib.Bits.{bitAnd}
@@ -51,3 +51,12 @@ pub record Long (left best pat : List ℕ) : Type 0 where
 pub record Kept (Mine : ℕ → Type 0) (left best pat left′ best′ pat′ : List ℕ) : Type 0 where
   pub long : Long left′ best′ pat′
   pub others : (f : ℕ) → ¬ Mine f → (getD left′ f 0 ≡ getD left f 0) × (getD best′ f 0 ≡ getD best f 0) × (getD pat′ f 0 ≡ getD pat f 0)
+
+-- the faults that are Mine went on, each as Step tells of its entries before and after, and no other entry changed
+pub record Went (Mine : ℕ → Type 0) (Step : ℕ → ℕ → ℕ → ℕ → ℕ → ℕ → ℕ → Type 0) (left best pat left′ best′ pat′ : List ℕ) : Type 0 where
+  pub kept : Kept Mine left best pat left′ best′ pat′
+  pub step : (f : ℕ) → Mine f → Step f (getD left f 0) (getD best f 0) (getD pat f 0) (getD left′ f 0) (getD best′ f 0) (getD pat′ f 0)
+
+-- lane x of the difference of the good words at slot s and the words of a run at slot e
+abbrev pub runLane : ℕ → ℕ → List ℕ → List ℕ → ℕ → Bool
+runLane s e goods vals x = xor (digit (x % 64) (getD goods (16 * s + x / 64) 0)) (digit (x % 64) (getD vals (16 * e + x / 64) 0))

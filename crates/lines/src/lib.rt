@@ -4,6 +4,11 @@ ghost use Prim.Native.Nat.{_+_, _≤_, _<_};
 ghost use mathlib.Core.Path.{_≡_};
 ghost use lib.ListN.{length};
 
+// What stands in memory of a line, a file or a lent buffer.
+pub const BUFFER: usize = 65536;
+
+pub type Buffer = [u8; BUFFER];
+
 // Writes the bytes that wait. None waits afterwards.
 pub fn finish(line: &[u8], used: &mut usize)
     ensures { λ _. ⌜ now (used .exit) ≡ 0 ⌝ }
@@ -18,7 +23,7 @@ pub fn finish(line: &[u8], used: &mut usize)
 }
 
 // Room for n bytes: a buffer with less is written.
-fn room(line: &[u8; 65536], used: &mut usize, n: usize)
+fn room(line: &Buffer, used: &mut usize, n: usize)
     requires { ⌜ n ≤ 65536 ⌝ }
     ensures { λ _. ⌜ now (used .exit) + n ≤ 65536 ⌝ }
 {
@@ -27,7 +32,7 @@ fn room(line: &[u8; 65536], used: &mut usize, n: usize)
     }
 }
 
-fn byte(line: &mut [u8; 65536], used: &mut usize, b: u8)
+fn byte(line: &mut Buffer, used: &mut usize, b: u8)
     ensures { λ _. ⌜ now (used .exit) ≤ 65536 ⌝ }
 {
     room(line, used, 1);
@@ -43,14 +48,14 @@ fn digit(d: u8) -> u8
 }
 
 // A byte in two digits.
-fn pair(line: &mut [u8; 65536], used: &mut usize, b: u8)
+fn pair(line: &mut Buffer, used: &mut usize, b: u8)
     ensures { λ _. ⌜ now (used .exit) ≤ 65536 ⌝ }
 {
     byte(line, used, digit(b / 16));
     byte(line, used, digit(b % 16));
 }
 
-fn put(line: &mut [u8; 65536], used: &mut usize, b: u8, hex: bool)
+fn put(line: &mut Buffer, used: &mut usize, b: u8, hex: bool)
     ensures { λ _. ⌜ now (used .exit) ≤ 65536 ⌝ }
 {
     if hex {
@@ -61,7 +66,7 @@ fn put(line: &mut [u8; 65536], used: &mut usize, b: u8, hex: bool)
 }
 
 // The first n of some bytes, as they are or in hex.
-fn run(line: &mut [u8; 65536], used: &mut usize, bytes: &[u8], n: usize, hex: bool)
+fn run(line: &mut Buffer, used: &mut usize, bytes: &[u8], n: usize, hex: bool)
     requires { ⌜ n ≤ length (now bytes) ⌝ }
     ensures { λ _. ⌜ now (used .exit) ≤ 65536 ⌝ }
 {
@@ -71,14 +76,14 @@ fn run(line: &mut [u8; 65536], used: &mut usize, bytes: &[u8], n: usize, hex: bo
     }
 }
 
-pub fn text(line: &mut [u8; 65536], used: &mut usize, bytes: &[u8])
+pub fn text(line: &mut Buffer, used: &mut usize, bytes: &[u8])
     ensures { λ _. ⌜ now (used .exit) ≤ 65536 ⌝ }
 {
     run(line, used, bytes, bytes.len(), false);
 }
 
 // A name and a number in decimal.
-pub fn field(line: &mut [u8; 65536], used: &mut usize, name: &[u8], n: usize)
+pub fn field(line: &mut Buffer, used: &mut usize, name: &[u8], n: usize)
     ensures { λ _. ⌜ now (used .exit) ≤ 65536 ⌝ }
 {
     text(line, used, name);
@@ -88,7 +93,7 @@ pub fn field(line: &mut [u8; 65536], used: &mut usize, name: &[u8], n: usize)
 }
 
 // A blank and i digits at a place of the buffer: the bytes from a place on, each 0 or 1.
-fn clock(line: &mut [u8; 65536], at: usize, play: &[u8], from: usize, i: usize)
+fn clock(line: &mut Buffer, at: usize, play: &[u8], from: usize, i: usize)
     requires { ⌜ (at + i < 65536) × (from + i ≤ length (now play)) × (from ≤ 65536) ⌝ }
 {
     line[at] = b' ';
@@ -98,7 +103,7 @@ fn clock(line: &mut [u8; 65536], at: usize, play: &[u8], from: usize, i: usize)
 }
 
 // The n clocks of a play in order, a blank and i digits each. There is room for all before the first is written.
-pub fn clocks(line: &mut [u8; 65536], used: &mut usize, play: &[u8], i: usize, n: usize)
+pub fn clocks(line: &mut Buffer, used: &mut usize, play: &[u8], i: usize, n: usize)
     requires { ⌜ (i ≤ 64) × (n ≤ 256) × (16384 ≤ length (now play)) ⌝ }
     ensures { λ _. ⌜ now (used .exit) ≤ 65536 ⌝ }
 {
@@ -115,7 +120,7 @@ pub fn clocks(line: &mut [u8; 65536], used: &mut usize, play: &[u8], i: usize, n
     *used = at;
 }
 
-pub fn refused(line: &mut [u8; 65536], used: &mut usize, number: u8, place: usize)
+pub fn refused(line: &mut Buffer, used: &mut usize, number: u8, place: usize)
     ensures { λ _. ⌜ now (used .exit) ≤ 65536 ⌝ }
 {
     field(line, used, b"refused ", number as usize);
@@ -123,7 +128,7 @@ pub fn refused(line: &mut [u8; 65536], used: &mut usize, number: u8, place: usiz
 }
 
 // A blank, and `-` where n entries are none.
-fn blank(line: &mut [u8; 65536], used: &mut usize, n: usize)
+fn blank(line: &mut Buffer, used: &mut usize, n: usize)
     ensures { λ _. ⌜ now (used .exit) ≤ 65536 ⌝ }
 {
     text(line, used, b" ");
@@ -133,7 +138,7 @@ fn blank(line: &mut [u8; 65536], used: &mut usize, n: usize)
 }
 
 // A blank and the first n of some bytes in hex, `-` for none.
-pub fn hex(line: &mut [u8; 65536], used: &mut usize, bytes: &[u8], n: usize)
+pub fn hex(line: &mut Buffer, used: &mut usize, bytes: &[u8], n: usize)
     requires { ⌜ n ≤ length (now bytes) ⌝ }
     ensures { λ _. ⌜ now (used .exit) ≤ 65536 ⌝ }
 {
@@ -142,7 +147,7 @@ pub fn hex(line: &mut [u8; 65536], used: &mut usize, bytes: &[u8], n: usize)
 }
 
 // A number of two bytes, low byte first.
-fn word(line: &mut [u8; 65536], used: &mut usize, w: u16)
+fn word(line: &mut Buffer, used: &mut usize, w: u16)
     ensures { λ _. ⌜ now (used .exit) ≤ 65536 ⌝ }
 {
     pair(line, used, (w % 256) as u8);
@@ -150,7 +155,7 @@ fn word(line: &mut [u8; 65536], used: &mut usize, w: u16)
 }
 
 // A blank and the first n of some numbers of two bytes in hex, `-` for none.
-pub fn hex_words(line: &mut [u8; 65536], used: &mut usize, words: &[u16], n: usize)
+pub fn hex_words(line: &mut Buffer, used: &mut usize, words: &[u16], n: usize)
     requires { ⌜ n ≤ length (now words) ⌝ }
     ensures { λ _. ⌜ now (used .exit) ≤ 65536 ⌝ }
 {

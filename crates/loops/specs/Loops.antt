@@ -1,5 +1,5 @@
 -- What is found of the loops of a netlist.
-use Prim.Native.Nat.{ℕ, _+_, _<_}
+use Prim.Native.Nat.{ℕ, _+_}
 use mathlib.Core.Path.{_≡_}
 use mathlib.Core.Bool.{Bool, true, false}
 use Rattle.chip.specs.Netlist.{Netlist}

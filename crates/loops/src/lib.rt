@@ -52,7 +52,7 @@ fn on_loop(i: usize, c: usize, firsts: &Firsts, nets: &Nets, own: usize) -> bool
     requires { ⌜ own < c ⌝ }
     ensures { λ r. ⌜ ((o : ℕ) (kinds counts : List ℕ) → FirstPins (tabled i c o kinds counts (now (nets .entry))) (now (firsts .entry)) → OnLoop (tabled i c o kinds counts (now (nets .entry))) own r) ⌝ }
 {
-    let mut list = [0u16; 1024];
+    let mut list = [0u16; CELLS];
     let mut places = [0u16; CELLS];
     let mut n = follow(i, c, firsts, nets, own, &mut list, &mut places, 0);
     let mut k = 0;

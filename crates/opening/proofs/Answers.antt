@@ -3,8 +3,9 @@ use Prim.Native.Nat.{ℕ, _≤_}
 use mathlib.Core.Path.{_≡_, sym, ap, _∙_, subst, fun-ext}
 use mathlib.Core.List.{List}
 use native.Mathlib.Omega.{arith}
-use Rattle.chip.specs.Netlist.{Netlist, InLimits, allPins}
-use Rattle.chip.specs.Inner.Tables.{tabled}
+use Rattle.chip.specs.Netlist.{Netlist, allPins}
+use Rattle.chip.specs.Inner.Limits.{InLimits}
+use Rattle.chip.specs.Inner.Tables.{sized}
 use Rattle.chip.specs.Got.{refused, got}
 use Rattle.chip.specs.Format.{readOf, chipOf}
 use Rattle.chip.specs.Class.{LoopFree, Prepared, blocks}
@@ -13,7 +14,7 @@ use Rattle.chip.specs.Replies.{ClassOn}
 use Rattle.chip.specs.declared.Classed.the-variants.{Class}
 use Rattle.netlist.specs.Answer.{tablesOf}
 use Rattle.netlist.specs.Inner.Holds.{Holds}
-use Rattle.netlist.specs.declared.Sizes.{Sizes}
+use Rattle.chip.specs.declared.Sizes.{Sizes}
 use Rattle.netlist.specs.declared.Reading.the-variants as R
 use Rattle.netlist.specs.declared.Tables.{Tables}
 use Rattle.netlist.proofs.Use as N
@@ -28,7 +29,7 @@ use Rattle.opening.specs.declared.Chip as C
 
 -- the netlist that the tables of a reading hold
 abbrev pub tablesChip : Tables → Sizes → Netlist
-tablesChip r z = tabled (z .inputs) (z .cells) (z .outputs) (r .kinds) (r .counts) (r .nets)
+tablesChip r z = sized z (r .kinds) (r .counts) (r .nets)
 
 -- what was found of a netlist, once the answer is known
 module _ (N : Netlist) (firsts order branches block reached : List ℕ) (a : Found) (f : FoundIs N firsts order branches block reached a) where
@@ -90,4 +91,4 @@ is-open {file} {t} o e = subst (OpenAs file t) e (o .answer)
 
 -- naming the class of an open chip
 pub class-is-on : (t : C.Chip) → IsOpen t → ClassOn (netlistOf t) (Class (t .shape .class) (t .shape .depth) (t .shape .blocks))
-class-is-on t o = prepared (o .shaped .prepared) (ap (Class (t .shape .class) (t .shape .depth)) (o .shaped .count))
+class-is-on t o = prepared (o .ready .shaped .prepared) (ap (Class (t .shape .class) (t .shape .depth)) (o .ready .shaped .count))

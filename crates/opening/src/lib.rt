@@ -9,14 +9,15 @@ use chip::Branches;
 use chip::CELLS;
 use chip::Classed;
 use chip::Counts;
+use chip::FIRSTS;
 use chip::Firsts;
 use chip::Kinds;
 use chip::Nets;
 use chip::Order;
 use chip::PINS;
 use chip::Reached;
+use chip::Sizes;
 use netlist::Reading;
-use netlist::Sizes;
 use structure::Found;
 use structure::Shape;
 
@@ -64,7 +65,7 @@ fn refused(number: u8, place: usize) -> Chip
         kinds: [0u8; CELLS],
         counts: [0u8; CELLS],
         nets: [0u16; PINS],
-        firsts: [0u16; 1025],
+        firsts: [0u16; FIRSTS],
         order: [0u16; CELLS],
         branches: [0u16; PINS],
         block: [0u16; PINS],
@@ -87,16 +88,13 @@ pub fn open(file: &[u8]) -> Chip
     let kinds = t.kinds;
     let counts = t.counts;
     let nets = t.nets;
-    let mut firsts = [0u16; 1025];
+    let mut firsts = [0u16; FIRSTS];
     let mut order = [0u16; CELLS];
     let mut branches = [0u16; PINS];
     let mut block = [0u16; PINS];
     let mut reached = [0u64; BLOCKS];
     match structure::prepare(
-        z.inputs,
-        z.cells,
-        z.outputs,
-        z.pins,
+        z,
         &kinds,
         &counts,
         &nets,

@@ -10,7 +10,8 @@ use borrow.Author.Tests.{lt-ltb, le-ltb, eq-eqb, ne-eqb, eqb-true}
 use lib.Dec.{eqb, ltb}
 use lib.ListN.{length, getD, set, length-set}
 use lib.Seq.{getD-set-same, getD-set-other}
-use Rattle.chip.specs.Netlist.{Netlist, Sound, InLimits, firstPin, allPins}
+use Rattle.chip.specs.Netlist.{Netlist, firstPin, allPins}
+use Rattle.chip.specs.Inner.Limits.{Sound, InLimits}
 use Rattle.chip.specs.Pads.{some, back, isBuf, source, padBuffer, intoPad, branchOf}
 use Rattle.chip.specs.Inner.Tables.{BranchTable}
 use Rattle.chip.proofs.Bools.{clash, or-no, or-yes}

@@ -2,7 +2,8 @@
 ghost use mathlib.Core.Path.{_≡_};
 ghost use Prim.Native.Nat.{_≤_};
 ghost use lib.ListN.{length};
-ghost use Rattle.chip.specs.Netlist.{allPins, InLimits};
+ghost use Rattle.chip.specs.Netlist.{allPins};
+ghost use Rattle.chip.specs.Inner.Limits.{InLimits};
 ghost use Rattle.chip.specs.Inner.Tables.{tabled, FirstPins, BranchTable};
 ghost use Rattle.order.specs.Order.{Ordered};
 ghost use Rattle.pads.specs.Sources.{sourceOf, Inputs, SourceTable, Named};

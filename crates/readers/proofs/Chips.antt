@@ -9,21 +9,23 @@ use native.Mathlib.Decide.{decLt}
 use borrow.Author.Tests.{lt-ltb, le-ltb}
 use lib.ListN.{length, getD}
 use lib.Dec.{ltb}
-use Rattle.chip.specs.Netlist.{Netlist, InLimits, PinOf, firstPin, allPins}
+use Rattle.chip.specs.Netlist.{Netlist, PinOf, firstPin, allPins}
+use Rattle.chip.specs.Inner.Limits.{InLimits}
 use Rattle.chip.specs.Pads.{branchOf}
 use Rattle.chip.specs.Inner.Tables.{tabled, FirstPins, BranchTable}
 use Rattle.chip.specs.Class.{blocks, tally}
 use Rattle.chip.proofs.Basics.{sum-up}
 use Rattle.chip.proofs.Blocks.{branch, counted, tally-past}
 use Rattle.order.specs.Order.{Ordered}
-use Rattle.slots.specs.Slots.{relOf, ReachMasks, Laid, variable, Variables, PinSlots}
+use Rattle.levels.specs.Levels.{ReachMasks}
+use Rattle.slots.specs.Slots.{relOf, Laid, variable, Variables, PinSlots}
 use Rattle.events.specs.Events.{Chip}
 use Rattle.flip.specs.Bed.{Bed}
-use Rattle.readers.specs.Readers.{keyOf, Wires, Built, Sizes}
+use Rattle.readers.specs.Readers.{keyOf, Wires, Built, Lengths}
 
 module _ (i c o b : ℕ) (kinds counts branches nets firsts order block : List ℕ) (low : ℕ → ℕ)
     (L : InLimits (tabled i c o kinds counts nets)) (F : FirstPins (tabled i c o kinds counts nets) firsts)
-    (O : Ordered (tabled i c o kinds counts nets) order) (E : BranchTable (tabled i c o kinds counts nets) branches) (Z : Sizes kinds counts firsts branches nets order block) where
+    (O : Ordered (tabled i c o kinds counts nets) order) (E : BranchTable (tabled i c o kinds counts nets) branches) (Z : Lengths kinds counts firsts branches nets order block) where
   few-cell : (t : ℕ) → t < c → getD order t 0 < 1024
   few-cell t l = omega (arith, O .cell t l, L .few-cells)
 

@@ -92,7 +92,7 @@ pub record Built (i c n : ℕ) (counts firsts branches nets order block heads re
       × (r < getD heads (keyOf i branches nets block (getD firsts (getD order t 0) 0 + x) + 1) 0) × (getD readers r 0 ≡ t)
 
 -- the lengths of the tables
-pub record Sizes (kinds counts firsts branches nets order block : List ℕ) : Type 0 where
+pub record Lengths (kinds counts firsts branches nets order block : List ℕ) : Type 0 where
   pub kinds-long : length kinds ≡ 1024
   pub counts-long : length counts ≡ 1024
   pub firsts-long : length firsts ≡ 1025

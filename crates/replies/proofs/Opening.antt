@@ -1,11 +1,12 @@
 -- A file opens as one thing, a netlist that is opened is within the limits, and what a call on it may be told of it is one.
 use Prim.Native.Nat.{ℕ}
-use mathlib.Core.Path.{_≡_, refl, sym, ap, _∙_, subst}
+use mathlib.Core.Path.{_≡_, refl, sym, _∙_, subst}
 use mathlib.Core.Logic.{inl, inr, _≢_}
 use mathlib.Core.List.{List}
 use native.Mathlib.Omega.{arith}
 use native.Mathlib.Decide.{ℕ-discrete}
-use Rattle.chip.specs.Netlist.{Netlist, InLimits}
+use Rattle.chip.specs.Netlist.{Netlist}
+use Rattle.chip.specs.Inner.Limits.{InLimits}
 use Rattle.chip.specs.Got.{Got, refused, got}
 use Rattle.chip.specs.Format.{Parsed, readOf, chipOf}
 use Rattle.chip.specs.Class.{Class23, ClassIs, TwoDepths, Prepared}

@@ -1,20 +1,20 @@
 -- Two replies that a call's contract allows are equal, answer and buffer.
-use Prim.Native.Nat.{ℕ, suc, _≤_, _<_}
+use Prim.Native.Nat.{ℕ, suc, _<_}
 use mathlib.Core.Path.{_≡_, refl, sym, ap, _∙_, subst}
-use mathlib.Core.Logic.{_≢_}
 use mathlib.Core.Bool.{Bool}
 use mathlib.Core.List.{List}
 use native.Mathlib.Omega.{arith}
 use lib.ListN.{length}
 use lib.Seq.{ext-getD}
-use Rattle.chip.specs.Netlist.{Netlist, InLimits}
+use Rattle.chip.specs.Netlist.{Netlist}
+use Rattle.chip.specs.Inner.Limits.{InLimits}
 use Rattle.chip.specs.Class.{Blocks, blocks, Prepared}
-use Rattle.chip.specs.Faults.{stuck, AllBits, playOf, IsPlay}
-use Rattle.chip.specs.Clocks.{BlockAt, Sets, patternOf}
+use Rattle.chip.specs.Faults.{stuck, AllBits, playOf}
+use Rattle.chip.specs.Clocks.{BlockAt, patternOf}
 use Rattle.chip.specs.Checking.{Seen, NotSeen}
 use Rattle.chip.specs.Search.{pattern}
 use Rattle.chip.specs.Refusals.{When11, Clocks}
-use Rattle.chip.specs.Replies.{ClassOn, ClassReply, CircuitOn, TransformOn, TransformReply, PlaySet, SetOn, SetReply, PatternRead, ReadOn, ReadReply, Checks, shows, shows-not, CheckOn, CheckReply, Searches, finds, finds-none, SearchOn, SearchReply}
+use Rattle.chip.specs.Replies.{ClassReply, CircuitOn, TransformReply, PlaySet, SetOn, SetReply, PatternRead, ReadOn, ReadReply, Checks, shows, shows-not, CheckReply, Searches, finds, finds-none, SearchReply}
 use Rattle.chip.specs.declared.Fault.{Fault}
 use Rattle.chip.specs.declared.Classed.{Classed}
 use Rattle.chip.specs.declared.Transformed.{Transformed}

@@ -8,9 +8,9 @@ use native.Mathlib.Omega.{arith}
 use native.Mathlib.Nat.{add-zero}
 use mathlib.Core.Bool.{true}
 use Rattle.chip.specs.Netlist.{takes}
-use Rattle.words.proofs.Lanes.{some-pin}
+use Rattle.chip.proofs.Basics.{some-pin}
 use native.Mathlib.Decide.{ℕ-discrete}
-use lib.ListN.{length, getD, set, length-set}
+use lib.ListN.{length, getD, set, length-set, replicate, getD-replicate}
 use lib.Seq.{getD-set-same, getD-set-other}
 use lib.Bits.{bitOr, bitXor, or-add-and, xor-add-and, and-le-l, and-le-r}
 use Rattle.rows.specs.Rows.{Filled, onRow, Pins}
@@ -29,6 +29,11 @@ fill-more b n word a m i x F e h w =
       below = λ y l. getD-set-other m i y x 0 (λ q. omega arith) ∙ F .below y l;
       above = λ y l. getD-set-other m i y x 0 (λ q. omega arith) ∙ F .above y (omega arith);
     }
+
+-- words joined with those of slot s by an operation: one word more
+pub slot-more : (op : ℕ → ℕ → ℕ) (vals : List ℕ) (s k : ℕ) {acc acc′ : List ℕ} → Filled 0 k (λ x. op (getD acc x 0) (getD vals (16 * s + x) 0)) acc acc′ → k < length acc
+    → Filled 0 (k + 1) (λ x. op (getD acc x 0) (getD vals (16 * s + x) 0)) acc (set acc′ k (op (getD acc′ k 0) (getD vals (16 * s + k) 0)))
+slot-more op vals s k {acc} {acc′} F l = fill-more 0 k _ acc acc′ k _ F (omega arith) (omega arith) (ap (λ x. op x (getD vals (16 * s + k) 0)) (F .above k (omega arith)))
 
 -- ---- words that do not differ
 
@@ -55,14 +60,25 @@ row-at n word a m F k l = let e : k ≡ 0 + k = omega arith in ap (λ x. getD m 
 pub fill-same : (b n : ℕ) (word word′ : ℕ → ℕ) (a m : List ℕ) → Filled b n word a m → ((k : ℕ) → k < n → word k ≡ word′ k) → Filled b n word′ a m
 fill-same b n word word′ a m F h = record { long = F .long; done = λ k l. F .done k l ∙ h k l; below = F .below; above = F .above }
 
-pub joined-more : (op : ℕ → ℕ → ℕ) (z : ℕ) (src vals : List ℕ) (a i s : ℕ) (acc acc′ : List ℕ) → length acc ≡ 16
-    → ((k : ℕ) → k < 16 → getD acc k 0 ≡ joined op z (onRow src vals k) a i) → s ≡ getD src (a + i) 0
-    → Filled 0 16 (λ k. op (getD acc k 0) (getD vals (16 * s + k) 0)) acc acc′
-    → (length acc′ ≡ 16) × ((k : ℕ) → k < 16 → getD acc′ k 0 ≡ joined op z (onRow src vals k) a (i + 1))
-joined-more op z src vals a i s acc acc′ l h e F = (
-  F .long ∙ l,
-  λ k b. rw add-one (row-at 16 _ acc acc′ F k b ∙ ap₂ op (h k b) (ap (λ x. getD vals (16 * x + k) 0) e)),
-)
+-- after i pins from pin a on each word is their words joined by an operation, from z on
+pub record Joins (op : ℕ → ℕ → ℕ) (z : ℕ) (src vals : List ℕ) (a i : ℕ) (acc : List ℕ) : Type 0 where
+  pub long : length acc ≡ 16
+  pub at : (k : ℕ) → k < 16 → getD acc k 0 ≡ joined op z (onRow src vals k) a i
+
+pub joins-none : (op : ℕ → ℕ → ℕ) (z : ℕ) (src vals : List ℕ) (a : ℕ) → Joins op z src vals a 0 (replicate 16 z)
+joins-none op z src vals a = record { long = refl; at = λ k l. getD-replicate 16 k z 0 l }
+
+module _ {op : ℕ → ℕ → ℕ} {z : ℕ} {src vals : List ℕ} {a i : ℕ} {acc : List ℕ} (J : Joins op z src vals a i acc) where
+  pub joins-more : {s : ℕ} {acc′ : List ℕ} → s ≡ getD src (a + i) 0 → Filled 0 16 (λ k. op (getD acc k 0) (getD vals (16 * s + k) 0)) acc acc′ → Joins op z src vals a (i + 1) acc′
+  joins-more {s} {acc′} e F =
+      record {
+        long = F .long ∙ J .long;
+        at = λ k l. rw add-one (row-at 16 _ acc acc′ F k l ∙ ap₂ op (J .at k l) (ap (λ x. getD vals (16 * x + k) 0) e));
+      }
+
+  -- at the end the bits of m are turned
+  pub joins-turned : (m : ℕ) {n : ℕ} {before after : List ℕ} → i ≡ n → Filled 0 16 (λ k. bitXor (getD acc k 0) m) before after → Filled 0 16 (λ k. bitXor (joined op z (onRow src vals k) a n) m) before after
+  joins-turned m {before = before} {after = after} e F = fill-same 0 16 _ _ before after F (λ k l. ap (λ x. bitXor x m) (J .at k l ∙ ap (joined op z (onRow src vals k) a) e))
 
 -- a cell has a first pin, and the slot that it looks at is there
 pub first-row : (kind a n size : ℕ) (src : List ℕ) → takes kind n ≡ true → Pins src size a n → (a < length src) × (16 * getD src a 0 + 16 ≤ size)

@@ -9,6 +9,11 @@ ghost use Rattle.words.specs.Lanes.{gateWord, joined};
 ghost use Rattle.rows.specs.Rows.{Filled, onRow, Pins};
 use chip::wide;
 
+// A slot has 16 words, and a table of words has 1,042 slots.
+pub const ROW: usize = 16;
+
+pub const WORDS: usize = 16672;
+
 // The words of slot s.
 pub fn load(vals: &[u64], s: usize, acc: &mut [u64])
     requires { ⌜ (16 * s + 16 ≤ length (now vals)) × (length (now acc) ≡ 16) ⌝ }
@@ -98,7 +103,7 @@ fn or_pins(m: u64, src: &[u16], a: usize, n: usize, vals: &[u64], out: &mut [u64
     requires { ⌜ (length (now out) ≡ 16) × Pins (now src) (length (now vals)) a n ⌝ }
     ensures { λ _. ⌜ Filled 0 16 (λ k. bitXor (joined bitOr 0 (onRow (now (src .entry)) (now (vals .entry)) k) a n) m) (now (out .entry)) (now (out .exit)) ⌝ }
 {
-    let mut acc = [0u64; 16];
+    let mut acc = [0u64; ROW];
     for i in 0..n {
         or_slot(vals, wide(src[a + i]), &mut acc);
     }
@@ -110,7 +115,7 @@ fn xor_pins(m: u64, src: &[u16], a: usize, n: usize, vals: &[u64], out: &mut [u6
     requires { ⌜ (length (now out) ≡ 16) × Pins (now src) (length (now vals)) a n ⌝ }
     ensures { λ _. ⌜ Filled 0 16 (λ k. bitXor (joined bitXor 0 (onRow (now (src .entry)) (now (vals .entry)) k) a n) m) (now (out .entry)) (now (out .exit)) ⌝ }
 {
-    let mut acc = [0u64; 16];
+    let mut acc = [0u64; ROW];
     for i in 0..n {
         xor_slot(vals, wide(src[a + i]), &mut acc);
     }

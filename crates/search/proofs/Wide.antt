@@ -9,7 +9,7 @@ use Rattle.chip.specs.Search.{digit}
 use Rattle.words.proofs.Bits.{word-zero}
 use Rattle.rows.proofs.Bits.{split}
 use Rattle.walk.specs.Walk.{TooWide}
-use Rattle.verdicts.specs.Verdicts.{Widths, WideWord}
+use Rattle.outputs.specs.Sites.{Widths, WideWord}
 
 -- a word without a wide output has none in common with that of the wide ones
 pub narrow-word : (o b outs wides y : ℕ) (reached widths : List ℕ) → wides < 2 ^ 64 → Widths o b reached widths → WideWord o widths wides → TooWide o b outs reached y → o ≤ y → bitAnd outs wides ≡ 0

@@ -4,21 +4,22 @@ ghost use mathlib.Core.Path.{_≡_};
 ghost use mathlib.Core.Logic.{_≢_};
 ghost use mathlib.Core.List.{List};
 ghost use Prim.Native.Nat.{ℕ, _+_, _*_, _<_};
-ghost use Rattle.chip.specs.Inner.Tables.{tabled};
+ghost use Rattle.chip.specs.Inner.Tables.{sized};
 ghost use Rattle.chip.specs.Replies.{SearchOn, SearchReply};
 ghost use Rattle.opening.specs.Open.{netlistOf, IsOpen};
-ghost use Rattle.slots.specs.Slots.{ReachMasks};
 ghost use Rattle.faults.specs.Numbers.{faultNumber};
 ghost use Rattle.spots.specs.Spots.{Spots};
 ghost use Rattle.search.specs.Inner.Answered.{Answered, Looked, Surveyed};
 use chip::FAULTS;
 use chip::Fault;
-use chip::PINS;
-use chip::PinWords;
+use chip::OUTPUTS;
+use chip::OutputWidths;
 use chip::SITES;
 use chip::Searched;
+use chip::Sizes;
+use chip::VARIABLES;
+use chip::VariableTable;
 use chip::wide8;
-use netlist::Sizes;
 use opening::Chip;
 use opening::Opening;
 use structure::Shape;
@@ -28,10 +29,10 @@ use walk::Walk;
 pub struct Findings {
     pub wides: u64,
     pub sites: [u64; SITES],
-    pub widths: [u16; 64],
+    pub widths: OutputWidths,
     pub best: [u8; FAULTS],
     pub pat: [u32; FAULTS],
-    pub spots: [u16; 1024],
+    pub spots: VariableTable,
 }
 
 // The number of a pattern.
@@ -49,17 +50,17 @@ fn answer_judged(
     f: usize,
     wides: u64,
     sites: &[u64; SITES],
-    widths: &[u16; 64],
+    widths: &OutputWidths,
     best: &[u8; FAULTS],
     pat: &[u32; FAULTS],
     room: usize,
 ) -> Searched
     requires { ⌜ ((kinds : List ℕ) × (counts : List ℕ) × (nets : List ℕ) × (reached : List ℕ) × Looked z s f wides (now sites) (now widths) (now best) (now pat) kinds counts nets reached) ⌝ }
     ensures { λ r. ⌜ ((kinds counts nets reached : List ℕ) → Looked z s f wides (now (sites .entry)) (now (widths .entry)) (now (best .entry)) (now (pat .entry)) kinds counts nets reached
-        → Answered (tabled (z .inputs) (z .cells) (z .outputs) kinds counts nets) s (faultNumber (z .inputs + z .cells) f) reached room r) ⌝ }
+        → Answered (sized z kinds counts nets) s (faultNumber (z .inputs + z .cells) f) reached room r) ⌝ }
 {
     let outs = sites[f / 2];
-    let y = verdicts::first_wide(z.outputs, outs, wides);
+    let y = outputs::first_wide(z.outputs, outs, wides);
     if y < z.outputs {
         return Searched::Refused(16, y);
     }
@@ -67,32 +68,29 @@ fn answer_judged(
     if room < long {
         return Searched::Refused(15, long);
     }
-    match verdicts::verdict(z.outputs, outs, wide8(best[f]), number(pat[f]), widths) {
+    match outputs::verdict(z.outputs, outs, wide8(best[f]), number(pat[f]), widths) {
         Walk::Missed(k) => Searched::Untestable(k),
         Walk::Hit(z, m, k) => Searched::Found(z, m, k),
     }
 }
 
 // Looks for fault f of an open chip of class 2 or 3 alone, and answers or refuses: 16, 15.
-fn answer_alone(opened: Chip, cone: &PinWords, f: usize, room: usize) -> Searched
-    requires { ⌜ IsOpen opened × ReachMasks (netlistOf opened) (now cone) ⌝ }
+fn answer_alone(opened: Chip, f: usize, room: usize) -> Searched
+    requires { ⌜ IsOpen opened ⌝ }
     requires { ⌜ (opened .shape .class ≢ 1) × (f < 2 * (opened .sizes .inputs + opened .sizes .cells + opened .sizes .pins)) ⌝ }
     ensures { λ r. ⌜ Answered (netlistOf opened) (opened .shape) (faultNumber (opened .sizes .inputs + opened .sizes .cells) f) (opened .reached) room r ⌝ }
 {
     let z = opened.sizes;
     let s = opened.shape;
     let mut sites = [0u64; SITES];
-    let mut widths = [0u16; 64];
+    let mut widths = [0u16; OUTPUTS];
     let mut best = [64u8; FAULTS];
     let mut pat = [0u32; FAULTS];
     let wides = verdicts::judge(
+        z,
+        s,
         f,
         f + 1,
-        z.inputs,
-        z.cells,
-        z.outputs,
-        z.pins,
-        s,
         &opened.kinds,
         &opened.counts,
         &opened.firsts,
@@ -101,7 +99,6 @@ fn answer_alone(opened: Chip, cone: &PinWords, f: usize, room: usize) -> Searche
         &opened.branches,
         &opened.block,
         &opened.reached,
-        cone,
         &mut sites,
         &mut widths,
         &mut best,
@@ -125,30 +122,15 @@ pub fn search_on(opened: Chip, fault: Fault, play: &mut [u8]) -> Searched
         return Searched::Refused(11, s.place);
     }
     let f = faults::fault_number(z.inputs + z.cells, fault);
-    let mut cone = [0u64; PINS];
-    walk::reach_masks(
-        z.inputs,
-        z.cells,
-        z.outputs,
-        &opened.kinds,
-        &opened.counts,
-        &opened.firsts,
-        &opened.nets,
-        &opened.order,
-        &mut cone,
-    );
-    match answer_alone(opened, &cone, f, play.len()) {
+    match answer_alone(opened, f, play.len()) {
         Searched::Refused(k, p) => Searched::Refused(k, p),
         Searched::Untestable(k) => Searched::Untestable(k),
         Searched::Found(y, m, k) => {
-            walk::play_pattern(
-                z.inputs,
-                z.cells,
-                z.outputs,
-                z.pins,
-                y,
-                m,
+            let mut spots = [0u16; VARIABLES];
+            spots::find_spots(
+                z,
                 s,
+                words::one_bit(y),
                 &opened.kinds,
                 &opened.counts,
                 &opened.firsts,
@@ -157,8 +139,9 @@ pub fn search_on(opened: Chip, fault: Fault, play: &mut [u8]) -> Searched
                 &opened.branches,
                 &opened.block,
                 &opened.reached,
-                play,
+                &mut spots,
             );
+            spots::play_spots(z.inputs, s.depth, y, m, &spots, play);
             Searched::Found(y, m, k)
         }
     }
@@ -171,25 +154,11 @@ pub fn survey(opened: Chip) -> Findings
 {
     let z = opened.sizes;
     let s = opened.shape;
-    let mut cone = [0u64; PINS];
-    walk::reach_masks(
-        z.inputs,
-        z.cells,
-        z.outputs,
-        &opened.kinds,
-        &opened.counts,
-        &opened.firsts,
-        &opened.nets,
-        &opened.order,
-        &mut cone,
-    );
-    let mut spots = [0u16; 1024];
+    let mut spots = [0u16; VARIABLES];
     spots::find_spots(
-        z.inputs,
-        z.cells,
-        z.outputs,
-        z.pins,
+        z,
         s,
+        0xffff_ffff_ffff_ffff,
         &opened.kinds,
         &opened.counts,
         &opened.firsts,
@@ -201,17 +170,14 @@ pub fn survey(opened: Chip) -> Findings
         &mut spots,
     );
     let mut sites = [0u64; SITES];
-    let mut widths = [0u16; 64];
+    let mut widths = [0u16; OUTPUTS];
     let mut best = [64u8; FAULTS];
     let mut pat = [0u32; FAULTS];
     let wides = verdicts::judge(
+        z,
+        s,
         0,
         2 * (z.inputs + z.cells + z.pins),
-        z.inputs,
-        z.cells,
-        z.outputs,
-        z.pins,
-        s,
         &opened.kinds,
         &opened.counts,
         &opened.firsts,
@@ -220,7 +186,6 @@ pub fn survey(opened: Chip) -> Findings
         &opened.branches,
         &opened.block,
         &opened.reached,
-        &cone,
         &mut sites,
         &mut widths,
         &mut best,
@@ -243,17 +208,17 @@ pub fn search_listed<'a>(
     f: usize,
     wides: u64,
     sites: &'a [u64; SITES],
-    widths: &'a [u16; 64],
+    widths: &'a OutputWidths,
     best: &'a [u8; FAULTS],
     pat: &'a [u32; FAULTS],
-    spots: &'a [u16; 1024],
+    spots: &'a VariableTable,
     play: &mut [u8],
 ) -> Searched
     requires { ⌜ ((kinds : List ℕ) × (counts : List ℕ) × (nets : List ℕ) × (reached : List ℕ) × Looked z s f wides (now sites) (now widths) (now best) (now pat) kinds counts nets reached
-        × Spots (tabled (z .inputs) (z .cells) (z .outputs) kinds counts nets) (s .depth) reached (now spots)) ⌝ }
+        × Spots (sized z kinds counts nets) (s .depth) reached (now spots)) ⌝ }
     ensures { λ r. ⌜ ((kinds counts nets reached : List ℕ) → Looked z s f wides (now (sites .entry)) (now (widths .entry)) (now (best .entry)) (now (pat .entry)) kinds counts nets reached
-        → Spots (tabled (z .inputs) (z .cells) (z .outputs) kinds counts nets) (s .depth) reached (now (spots .entry))
-        → SearchOn (tabled (z .inputs) (z .cells) (z .outputs) kinds counts nets) (faultNumber (z .inputs + z .cells) f) (now (play .entry)) (r, now (play .exit))) ⌝ }
+        → Spots (sized z kinds counts nets) (s .depth) reached (now (spots .entry))
+        → SearchOn (sized z kinds counts nets) (faultNumber (z .inputs + z .cells) f) (now (play .entry)) (r, now (play .exit))) ⌝ }
 {
     match answer_judged(z, s, f, wides, sites, widths, best, pat, play.len()) {
         Searched::Refused(k, p) => Searched::Refused(k, p),

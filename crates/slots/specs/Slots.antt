@@ -6,19 +6,14 @@ use mathlib.Core.Bool.{Bool, cond}
 use mathlib.Core.List.{List}
 use lib.ListN.{length, getD}
 use lib.Dec.{ltb}
-use Rattle.chip.specs.Netlist.{Netlist, allPins}
-use Rattle.chip.specs.Class.{Reach, Lowest, Class23, blocks, tally}
+use Rattle.chip.specs.Netlist.{Netlist}
+use Rattle.chip.specs.Class.{Lowest, Class23, blocks, tally}
 use Rattle.chip.specs.Search.{digit}
-use Rattle.levels.specs.Levels.{Mask}
 use Rattle.blocks.specs.Labels.{BlockTable}
 
 -- whether block b reaches output z, by a table of the outputs that each block reaches
 abbrev pub relOf : List ℕ → ℕ → ℕ → Bool
 relOf reached z b = digit z (getD reached b 0)
-
--- the outputs that each pin reaches, at any depth
-abbrev pub ReachMasks : Netlist → List ℕ → Type 0
-ReachMasks N table = (p : ℕ) → p < allPins N → Mask (N .outs) (getD table p 0) (λ z. (e : ℕ) × Reach N z p e)
 
 -- whether the first pin of cell j reaches output z
 abbrev pub inCone : List ℕ → List ℕ → ℕ → ℕ → Bool

@@ -8,6 +8,7 @@ use native.Mathlib.Omega.{arith}
 use native.Mathlib.Decide.{decLt, ℕ-discrete}
 use lib.ListN.{length, getD, set, length-set}
 use lib.Seq.{getD-set-same, getD-set-other}
+use lib.Bits.{bitAnd}
 use Rattle.chip.specs.Netlist.{allPins}
 use Rattle.chip.specs.Pads.{branchOf}
 use Rattle.chip.specs.Inner.Tables.{tabled, BranchTable}
@@ -18,6 +19,7 @@ use Rattle.chip.proofs.Bools.{clash, passes}
 use Rattle.levels.specs.Levels.{PinMasks}
 use Rattle.slots.specs.Slots.{relOf}
 use Rattle.words.proofs.Bits.{digit-zero}
+use Rattle.rows.proofs.Bits.{split, meet}
 use Rattle.spots.specs.Marks.{Changed, BlockMark, RowMark, ListMark, SpotMark, PinMark, LevelMark, DepthMark, OneMark}
 
 -- nothing is marked, and nothing changed
@@ -102,20 +104,31 @@ module _ (z : ℕ) (reached : List ℕ) where
       record { block = less; reaches = m .reaches; few = m .few; at = m .at })
       (row-wide k) C
 
--- the outputs, one more
-module _ (b : ℕ) (reached : List ℕ) where
-  pub list-start : (a : List ℕ) → Changed (ListMark b 0 reached) a a
-  list-start a = changed-none (ListMark b 0 reached) a (λ q v m. omega (arith, m .below))
+-- the outputs, one more: it is in the word, or it is not
+module _ (b outs : ℕ) (reached : List ℕ) where
+  pub list-start : (a : List ℕ) → Changed (ListMark b 0 outs reached) a a
+  list-start a = changed-none (ListMark b 0 outs reached) a (λ q v m. omega (arith, m .below))
 
-  pub list-more : (y : ℕ) (l l′ l″ : List ℕ) → Changed (RowMark b y reached) l′ l″ → Changed (ListMark b y reached) l l′ → Changed (ListMark b (y + 1) reached) l l″
-  list-more y l l′ l″ D C =
-      changed-both (ListMark b y reached) (RowMark b y reached) (ListMark b (y + 1) reached) l l′ l″
+  list-wide : (y q v : ℕ) → ListMark b y outs reached q v → ListMark b (y + 1) outs reached q v
+  list-wide y q v m = record { out = m .out; below = omega (arith, m .below); among = m .among; row = m .row }
+
+  pub list-yes : (y : ℕ) (l l′ l″ : List ℕ) → digit y outs ≡ true → Changed (RowMark b y reached) l′ l″ → Changed (ListMark b y outs reached) l l′ → Changed (ListMark b (y + 1) outs reached) l l″
+  list-yes y l l′ l″ t D C =
+      changed-both (ListMark b y outs reached) (RowMark b y reached) (ListMark b (y + 1) outs reached) l l′ l″
       (λ q v m. elim (decLt (m .out) y) [
-        | yes h ↦ inl (record { out = m .out; below = h; row = m .row })
+        | yes h ↦ inl (record { out = m .out; below = h; among = m .among; row = m .row })
         | no g ↦ let e : m .out ≡ y = omega (arith, m .below) in inr (subst (λ k. RowMark b k reached q v) e (m .row))
       ])
-      (λ q v m. record { out = m .out; below = omega (arith, m .below); row = m .row })
-      (λ q v m. record { out = y; below = omega arith; row = m }) C D
+      (list-wide y)
+      (λ q v m. record { out = y; below = omega arith; among = t; row = m }) C D
+
+  pub list-no : (y : ℕ) (l l′ : List ℕ) → digit y outs ≡ false → Changed (ListMark b y outs reached) l l′ → Changed (ListMark b (y + 1) outs reached) l l′
+  list-no y l l′ f C =
+      changed-same (ListMark b y outs reached) (ListMark b (y + 1) outs reached) l l′
+      (λ q v m.
+      let less : m .out < y = elim (decLt (m .out) y) [ yes h ↦ h | no n ↦ let h : m .out ≡ y = omega (arith, m .below) in clash (rw h at (m .among)) f ] in
+      record { out = m .out; below = less; among = m .among; row = m .row })
+      (list-wide y) C
 
 -- the places of a block of an output, one number more
 module _ (z s t : ℕ) (lists : List ℕ) where
@@ -176,45 +189,45 @@ module _ (s t : ℕ) (lists : List ℕ) where
         (pin-wide y) C
 
 -- the pins of a depth, one more
-module _ (i o from : ℕ) (branches block words lists : List ℕ) where
-  pub level-start : (a : List ℕ) → Changed (LevelMark i o 0 from branches block words lists) a a
-  level-start a = changed-none (LevelMark i o 0 from branches block words lists) a (λ q v m. omega (arith, m .below))
+module _ (i o from outs : ℕ) (branches block words lists : List ℕ) where
+  pub level-start : (a : List ℕ) → Changed (LevelMark i o 0 from outs branches block words lists) a a
+  level-start a = changed-none (LevelMark i o 0 from outs branches block words lists) a (λ q v m. omega (arith, m .below))
 
-  level-wide : (p q v : ℕ) → LevelMark i o p from branches block words lists q v → LevelMark i o (p + 1) from branches block words lists q v
+  level-wide : (p q v : ℕ) → LevelMark i o p from outs branches block words lists q v → LevelMark i o (p + 1) from outs branches block words lists q v
   level-wide p q v m = record { pin = m .pin; below = omega (arith, m .below); branch = m .branch; mark = m .mark }
 
-  pub level-yes : (p w s t : ℕ) (a b c : List ℕ) → getD branches p 0 < i → w ≡ getD words p 0 → s ≡ getD block p 0 → t ≡ from + getD branches p 0
-      → Changed (PinMark o w s t lists) b c → Changed (LevelMark i o p from branches block words lists) a b → Changed (LevelMark i o (p + 1) from branches block words lists) a c
+  pub level-yes : (p w s t : ℕ) (a b c : List ℕ) → getD branches p 0 < i → w ≡ bitAnd (getD words p 0) outs → s ≡ getD block p 0 → t ≡ from + getD branches p 0
+      → Changed (PinMark o w s t lists) b c → Changed (LevelMark i o p from outs branches block words lists) a b → Changed (LevelMark i o (p + 1) from outs branches block words lists) a c
   level-yes p w s t a b c l ew es et D C =
-      changed-both (LevelMark i o p from branches block words lists) (PinMark o w s t lists) (LevelMark i o (p + 1) from branches block words lists) a b c
+      changed-both (LevelMark i o p from outs branches block words lists) (PinMark o w s t lists) (LevelMark i o (p + 1) from outs branches block words lists) a b c
       (λ q v m. elim (decLt (m .pin) p) [
         | yes h ↦ inl (record { pin = m .pin; below = h; branch = m .branch; mark = m .mark })
-        | no g ↦ let h : m .pin ≡ p = omega (arith, m .below) in inr (rw (ew, es, et) (subst (λ k. PinMark o (getD words k 0) (getD block k 0) (from + getD branches k 0) lists q v) h (m .mark)))
+        | no g ↦ let h : m .pin ≡ p = omega (arith, m .below) in inr (rw (ew, es, et) (subst (λ k. PinMark o (bitAnd (getD words k 0) outs) (getD block k 0) (from + getD branches k 0) lists q v) h (m .mark)))
       ])
       (level-wide p)
       (λ q v m. record { pin = p; below = omega arith; branch = l; mark = rw (ew, es, et) at m }) C D
 
-  pub level-no : (p : ℕ) (a b : List ℕ) → i ≤ getD branches p 0 → Changed (LevelMark i o p from branches block words lists) a b
-      → Changed (LevelMark i o (p + 1) from branches block words lists) a b
+  pub level-no : (p : ℕ) (a b : List ℕ) → i ≤ getD branches p 0 → Changed (LevelMark i o p from outs branches block words lists) a b
+      → Changed (LevelMark i o (p + 1) from outs branches block words lists) a b
   level-no p a b g C =
-      changed-same (LevelMark i o p from branches block words lists) (LevelMark i o (p + 1) from branches block words lists) a b
+      changed-same (LevelMark i o p from outs branches block words lists) (LevelMark i o (p + 1) from outs branches block words lists) a b
       (λ q v m.
       let less : m .pin < p = elim (decLt (m .pin) p) [ yes l ↦ l | no n ↦ let h : m .pin ≡ p = omega (arith, m .below) in let k : getD branches p 0 < i = rw h at (m .branch) in absurd (omega arith) ] in
       record { pin = m .pin; below = less; branch = m .branch; mark = m .mark })
       (level-wide p) C
 
 -- the depths, one more
-module _ (i c o : ℕ) (kinds counts nets branches block lists : List ℕ) (d : ℕ) where
-  pub depth-start : (a : List ℕ) → Changed (DepthMark (tabled i c o kinds counts nets) d 0 block lists) a a
-  depth-start a = changed-none (DepthMark (tabled i c o kinds counts nets) d 0 block lists) a (λ q v m. omega (arith, m .below))
+module _ (i c o : ℕ) (kinds counts nets branches block lists : List ℕ) (d outs : ℕ) where
+  pub depth-start : (a : List ℕ) → Changed (DepthMark (tabled i c o kinds counts nets) d 0 outs block lists) a a
+  depth-start a = changed-none (DepthMark (tabled i c o kinds counts nets) d 0 outs block lists) a (λ q v m. omega (arith, m .below))
 
   pub depth-more : (e n : ℕ) (words x y z : List ℕ) → n ≡ allPins (tabled i c o kinds counts nets) → BranchTable (tabled i c o kinds counts nets) branches
-      → PinMasks (tabled i c o kinds counts nets) e words → Changed (LevelMark i o n ((d - e) * i) branches block words lists) y z
-      → Changed (DepthMark (tabled i c o kinds counts nets) d e block lists) x y → Changed (DepthMark (tabled i c o kinds counts nets) d (e + 1) block lists) x z
+      → PinMasks (tabled i c o kinds counts nets) e words → Changed (LevelMark i o n ((d - e) * i) outs branches block words lists) y z
+      → Changed (DepthMark (tabled i c o kinds counts nets) d e outs block lists) x y → Changed (DepthMark (tabled i c o kinds counts nets) d (e + 1) outs block lists) x z
   depth-more e n words x y z all T W D C =
-      changed-both (DepthMark (tabled i c o kinds counts nets) d e block lists) (LevelMark i o n ((d - e) * i) branches block words lists)
-      (DepthMark (tabled i c o kinds counts nets) d (e + 1) block lists) x y z split
-      (λ q v m. record { depth = m .depth; below = omega (arith, m .below); pin = m .pin; branch = m .branch; out = m .out; reach = m .reach; spot = m .spot })
+      changed-both (DepthMark (tabled i c o kinds counts nets) d e outs block lists) (LevelMark i o n ((d - e) * i) outs branches block words lists)
+      (DepthMark (tabled i c o kinds counts nets) d (e + 1) outs block lists) x y z parts
+      (λ q v m. record { depth = m .depth; below = omega (arith, m .below); pin = m .pin; branch = m .branch; out = m .out; among = m .among; reach = m .reach; spot = m .spot })
       (λ q v m.
       let h : m .pin < allPins (tabled i c o kinds counts nets) = omega (arith, m .below) in
       let b : getD branches (m .pin) 0 ≡ branchOf (tabled i c o kinds counts nets) (m .pin) = T (m .pin) h in
@@ -224,14 +237,15 @@ module _ (i c o : ℕ) (kinds counts nets branches block lists : List ℕ) (d : 
         pin = m .pin;
         branch = rw b at (m .branch);
         out = m .mark .out;
-        reach = W (m .pin) h .set (m .mark .out) (m .mark .below) (m .mark .reached);
+        among = split (getD words (m .pin) 0) outs (m .mark .out) (m .mark .reached) .1;
+        reach = W (m .pin) h .set (m .mark .out) (m .mark .below) (split (getD words (m .pin) 0) outs (m .mark .out) (m .mark .reached) .0);
         spot = rw b at (m .mark .spot);
       }) C D
     where
-      split : (q v : ℕ) → DepthMark (tabled i c o kinds counts nets) d (e + 1) block lists q v
-          → DepthMark (tabled i c o kinds counts nets) d e block lists q v ⊎ LevelMark i o n ((d - e) * i) branches block words lists q v
-      split q v m = elim (decLt (m .depth) e) [
-        | yes l ↦ inl (record { depth = m .depth; below = l; pin = m .pin; branch = m .branch; out = m .out; reach = m .reach; spot = m .spot })
+      parts : (q v : ℕ) → DepthMark (tabled i c o kinds counts nets) d (e + 1) outs block lists q v
+          → DepthMark (tabled i c o kinds counts nets) d e outs block lists q v ⊎ LevelMark i o n ((d - e) * i) outs branches block words lists q v
+      parts q v m = elim (decLt (m .depth) e) [
+        | yes l ↦ inl (record { depth = m .depth; below = l; pin = m .pin; branch = m .branch; out = m .out; among = m .among; reach = m .reach; spot = m .spot })
         | no g ↦
             let h : m .depth ≡ e = omega (arith, m .below) in
             let r = rw h at (m .reach) in
@@ -245,7 +259,7 @@ module _ (i c o : ℕ) (kinds counts nets branches block lists : List ℕ) (d : 
               mark = record {
                 out = m .out;
                 below = below;
-                reached = passes (digit (m .out) (getD words (m .pin) 0)) (λ f. W (m .pin) p .clear (m .out) below f r);
+                reached = meet (getD words (m .pin) 0) outs (m .out) (passes (digit (m .out) (getD words (m .pin) 0)) (λ f. W (m .pin) p .clear (m .out) below f r)) (m .among);
                 spot = rw (b, ← h) (m .spot);
               };
             })

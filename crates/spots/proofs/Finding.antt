@@ -1,6 +1,6 @@
 -- After all depths each entry is the place of its variable.
 use Prim.Native.Nat.{ℕ, suc, _+_, _*_, _-_, _≤_, _<_}
-use mathlib.Core.Path.{_≡_, refl, sym, ap, _∙_}
+use mathlib.Core.Path.{_≡_, refl, sym, ap, _∙_, subst}
 use mathlib.Core.Logic.{_≢_}
 use mathlib.Core.Bool.{Bool, true}
 use mathlib.Core.List.{List}
@@ -18,15 +18,13 @@ use Rattle.chip.proofs.Bools.{passes}
 use Rattle.chip.proofs.Clocks.{block-low, block-deep, names-input}
 use Rattle.chip.proofs.LookBack.{Balanced}
 use Rattle.chip.proofs.Loops.{ranked}
+use Rattle.chip.proofs.Theorem.{balanced-of}
 use Rattle.chip.proofs.Unique.{one-low}
+use Rattle.structure.specs.Inner.Shape.{Ready}
 use Rattle.structure.specs.declared.Shape.{Shape}
-use Rattle.sweeps.specs.Swept.{Even}
-use Rattle.sweeps.proofs.Tables.{even-balanced, even-table}
 use Rattle.slots.specs.Slots.{relOf}
-use Rattle.walk.specs.Walk.{Ready}
-use Rattle.walk.proofs.Playing.{ready-even}
 use Rattle.spots.specs.Marks.{Changed, ListMark, DepthMark}
-use Rattle.spots.specs.Spots.{Spots}
+use Rattle.spots.specs.Spots.{BlockSpots}
 
 -- a number that passes a test is known by how many before it do
 pub tally-one : (test : ℕ → Bool) (b k : ℕ) → test b ≡ true → test k ≡ true → tally test b ≡ tally test k → b ≡ k
@@ -37,22 +35,25 @@ tally-one test b k t u e =
     ]
 
 -- what a prepared chip of class 2 or 3 has, by its blocks' lowest pins
-module _ (N : Netlist) (n : ℕ) (s : Shape) (firsts order branches block reached cone : List ℕ) (R : Ready N n s firsts order branches block reached cone) (g : s .class ≢ 1)
-    (low : ℕ → ℕ) (L : Lowest N low) where
-  even : Even N n (s .depth) (s .blocks) firsts order branches block
-  even = ready-even N n s firsts order branches block reached cone R g (s .blocks) refl
-
-  pub bal : Balanced N (blocks N low)
-  bal = even-balanced even low L
-
+module _ {N : Netlist} {n : ℕ} {s : Shape} {firsts order branches block reached : List ℕ} (R : Ready N n s firsts order branches block reached) where
   pub ranks : Ranked N
   ranks = ranked N (R .shaped .prepared .loop-free)
 
+module _ {N : Netlist} {n : ℕ} {s : Shape} {firsts order branches block reached : List ℕ} (R : Ready N n s firsts order branches block reached) (g : s .class ≢ 1)
+    (low : ℕ → ℕ) (L : Lowest N low) where
+  same-low : R .shaped .low ≡ low
+  same-low = one-low N (R .shaped .low) low (R .shaped .prepared .lowest) L
+
+  pub bal : Balanced N (blocks N low)
+  bal = subst (λ w. Balanced N (blocks N w)) same-low (balanced-of N (s .depth) (R .shaped .low) (s .class) (R .shaped .prepared) g)
+
+  numbered : (p : ℕ) → p < allPins N → branchOf N p < N .inputs → getD block p 0 ≡ blocks N low .block p
+  numbered p h i = R .shaped .block-table (branchOf N p) p (record { pin = h; names = refl; input = i }) ∙ ap (λ w. blocks N w .block p) same-low
+
   pub low-block : {z b e : ℕ} → BlockAt N (blocks N low) z b e → b < s .blocks
   low-block {z} {b} {e} a =
-      let q : R .shaped .low ≡ low = one-low N (R .shaped .low) low (R .shaped .prepared .lowest) L in
-      let c : s .blocks ≡ blocks N low .count = rw q at (R .shaped .count) in
-      omega (arith, block-low N (R .limits .sound) ranks (s .depth) (R .shaped .prepared .depth .within) (blocks N low) bal z a)
+      let c : s .blocks ≡ blocks N low .count = rw same-low at (R .shaped .count) in
+      omega (arith, block-low N (R .limits .sound) (ranks R) (s .depth) (R .shaped .prepared .depth .within) (blocks N low) bal z a)
 
   pub is-reached : {z b e : ℕ} → BlockAt N (blocks N low) z b e → relOf reached z b ≡ true
   is-reached {z} {b} {e} a =
@@ -60,39 +61,41 @@ module _ (N : Netlist) (n : ℕ) (s : Shape) (firsts order branches block reache
       let h : BlockReaches N (blocks N low) z b = (e, a) in
       passes (digit z (getD reached b 0)) (λ f. R .shaped .reach-table b (low-block a) .clear z (reach-out N (a .reach)) f (rw q at h))
 
-module _ (N : Netlist) (n : ℕ) (s : Shape) (firsts order branches block reached cone : List ℕ) (R : Ready N n s firsts order branches block reached cone) (g : s .class ≢ 1)
-    (lists₀ lists spots₀ spots : List ℕ) (C : Changed (ListMark (s .blocks) (N .outs) reached) lists₀ lists)
-    (D : Changed (DepthMark N (s .depth) (suc (s .depth)) block lists) spots₀ spots) where
+module _ {N : Netlist} {n : ℕ} {s : Shape} {firsts order branches block reached : List ℕ} (R : Ready N n s firsts order branches block reached) (g : s .class ≢ 1)
+    (outs : ℕ) (lists₀ lists spots₀ spots : List ℕ) (C : Changed (ListMark (s .blocks) (N .outs) outs reached) lists₀ lists)
+    (D : Changed (DepthMark N (s .depth) (suc (s .depth)) outs block lists) spots₀ spots) (z : ℕ) (among : digit z outs ≡ true) where
   module _ (low : ℕ → ℕ) (L : Lowest N low) where
     -- a block is listed at its number
-    listed : (z b e : ℕ) → BlockAt N (blocks N low) z b e → tally (relOf reached z) b < 16 → getD lists (16 * z + tally (relOf reached z) b) 0 ≡ b
-    listed z b e a few =
-        let t : relOf reached z b ≡ true = is-reached N n s firsts order branches block reached cone R g low L a in
+    listed : (b e : ℕ) → BlockAt N (blocks N low) z b e → tally (relOf reached z) b < 16 → getD lists (16 * z + tally (relOf reached z) b) 0 ≡ b
+    listed b e a few =
+        let t : relOf reached z b ≡ true = is-reached R g low L a in
         let m = C .put (16 * z + tally (relOf reached z) b) b (record {
           out = z;
           below = reach-out N (a .reach);
-          row = record { block = low-block N n s firsts order branches block reached cone R g low L a; reaches = t; few = few; at = refl };
+          among = among;
+          row = record { block = low-block R g low L a; reaches = t; few = few; at = refl };
         }) in
         let y : m .out ≡ z = omega (arith, m .row .at, m .row .few) in
         let u : relOf reached z (getD lists (16 * z + tally (relOf reached z) b) 0) ≡ true = rw y at (m .row .reaches) in
         let w : 16 * z + tally (relOf reached z) b ≡ 16 * z + tally (relOf reached z) (getD lists (16 * z + tally (relOf reached z) b) 0) = rw y at (m .row .at) in
         tally-one (relOf reached z) _ b u t (omega arith)
 
-    spot-is : (z b e : ℕ) → BlockAt N (blocks N low) z b e → tally (relOf reached z) b < 16
+    spot-is : (b e : ℕ) → BlockAt N (blocks N low) z b e → tally (relOf reached z) b < 16
         → getD spots (16 * z + tally (relOf reached z) b) 0 ≡ (s .depth - e) * N .inputs + blocks N low .input b
-    spot-is z b e a few =
-        let W : Balanced N (blocks N low) = bal N n s firsts order branches block reached cone R g low L in
-        let T = even-table (even N n s firsts order branches block reached cone R g low L) low L in
-        let rk : Ranked N = ranks N n s firsts order branches block reached cone R g low L in
+    spot-is b e a few =
+        let W : Balanced N (blocks N low) = bal R g low L in
+        let T = numbered R g low L in
+        let rk : Ranked N = ranks R in
         let i : branchOf N (a .pin) < N .inputs = names-input N (R .limits .sound) rk (s .depth) (R .shaped .prepared .depth .within) (blocks N low) W z a in
         let deep : e ≤ s .depth = block-deep N (R .limits .sound) rk (s .depth) (R .shaped .prepared .depth .within) (blocks N low) W z a in
-        let at : getD lists (16 * z + tally (relOf reached z) b) 0 ≡ b = listed z b e a few in
+        let at : getD lists (16 * z + tally (relOf reached z) b) 0 ≡ b = listed b e a few in
         let m = D .put (16 * z + tally (relOf reached z) b) _ (record {
           depth = e;
           below = omega arith;
           pin = a .pin;
           branch = i;
           out = z;
+          among = among;
           reach = a .reach;
           spot = record { from = omega arith; to = omega arith; block = at ∙ sym (a .block) ∙ sym (T (a .pin) (a .branch .pin) i); is = refl };
         }) in
@@ -104,5 +107,5 @@ module _ (N : Netlist) (n : ℕ) (s : Shape) (firsts order branches block reache
         let x : blocks N low .input b ≡ branchOf N (m .pin) = ap (λ j. blocks N low .input j) (sym k) ∙ W .counted .own (m .pin) h (m .branch) in
         m .spot .is ∙ ap (λ j. (s .depth - j) * N .inputs + branchOf N (m .pin)) f ∙ ap (λ j. (s .depth - e) * N .inputs + j) (sym x)
 
-  pub spots-found : Spots N (s .depth) reached spots
+  pub spots-found : BlockSpots N (s .depth) z reached spots
   spots-found = record { spot = spot-is }

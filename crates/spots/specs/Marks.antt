@@ -5,6 +5,7 @@ use mathlib.Core.Logic.{_⊎_}
 use mathlib.Core.Bool.{true}
 use mathlib.Core.List.{List}
 use lib.ListN.{length, getD}
+use lib.Bits.{bitAnd}
 use Rattle.chip.specs.Netlist.{Netlist}
 use Rattle.chip.specs.Pads.{branchOf}
 use Rattle.chip.specs.Class.{Reach, tally}
@@ -32,10 +33,11 @@ pub record RowMark (b z : ℕ) (reached : List ℕ) (q v : ℕ) : Type 0 where
   pub few : tally (relOf reached z) v < 16
   pub at : q ≡ 16 * z + tally (relOf reached z) v
 
--- those of the outputs below y
-pub record ListMark (b y : ℕ) (reached : List ℕ) (q v : ℕ) : Type 0 where
+-- those of the outputs below y that are in the word outs
+pub record ListMark (b y outs : ℕ) (reached : List ℕ) (q v : ℕ) : Type 0 where
   pub out : ℕ
   pub below : out < y
+  pub among : digit out outs ≡ true
   pub row : RowMark b out reached q v
 
 -- Spots: entry 16 z + k is the place of that block in a play.
@@ -54,20 +56,21 @@ pub record PinMark (y word s t : ℕ) (lists : List ℕ) (q v : ℕ) : Type 0 wh
   pub reached : digit out word ≡ true
   pub spot : SpotMark 16 out s t lists q v
 
--- the branches below n, each with its input's place in the clock that begins at a place
-pub record LevelMark (i o n from : ℕ) (branches block words lists : List ℕ) (q v : ℕ) : Type 0 where
+-- the branches below n, each with its input's place in the clock that begins at a place, for the outputs of its word that are in outs
+pub record LevelMark (i o n from outs : ℕ) (branches block words lists : List ℕ) (q v : ℕ) : Type 0 where
   pub pin : ℕ
   pub below : pin < n
   pub branch : getD branches pin 0 < i
-  pub mark : PinMark o (getD words pin 0) (getD block pin 0) (from + getD branches pin 0) lists q v
+  pub mark : PinMark o (bitAnd (getD words pin 0) outs) (getD block pin 0) (from + getD branches pin 0) lists q v
 
--- the depths below e: depth y stands at clock d - y
-pub record DepthMark (N : Netlist) (d e : ℕ) (block lists : List ℕ) (q v : ℕ) : Type 0 where
+-- the depths below e, for the outputs in outs: depth y stands at clock d - y
+pub record DepthMark (N : Netlist) (d e outs : ℕ) (block lists : List ℕ) (q v : ℕ) : Type 0 where
   pub depth : ℕ
   pub below : depth < e
   pub pin : ℕ
   pub branch : branchOf N pin < N .inputs
   pub out : ℕ
+  pub among : digit out outs ≡ true
   pub reach : Reach N out pin depth
   pub spot : SpotMark 16 out (getD block pin 0) ((d - depth) * N .inputs + branchOf N pin) lists q v
 

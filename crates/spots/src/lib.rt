@@ -3,17 +3,13 @@ ghost use mathlib.Core.Path.{_≡_};
 ghost use mathlib.Core.Logic.{_≢_};
 ghost use mathlib.Core.Bool.{true};
 ghost use mathlib.Core.List.{List};
-ghost use Prim.Native.Nat.{ℕ, suc, _+_, _*_, _≤_, _<_};
+ghost use Prim.Native.Nat.{ℕ, suc, _+_, _*_, _^_, _≤_, _<_};
 ghost use lib.ListN.{length, getD};
-ghost use Rattle.chip.specs.Netlist.{Netlist};
-ghost use Rattle.chip.specs.Inner.Tables.{tabled};
-ghost use Rattle.chip.specs.Class.{Lowest, blocks};
+ghost use Rattle.chip.specs.Inner.Tables.{sized};
 ghost use Rattle.chip.specs.Search.{digit};
-ghost use Rattle.sweeps.specs.Swept.{Even};
-ghost use Rattle.walk.specs.Walk.{Ready};
-ghost use Rattle.walk.specs.Walk.{Played};
+ghost use Rattle.structure.specs.Inner.Shape.{Ready};
 ghost use Rattle.spots.specs.Marks.{Changed, BlockMark, RowMark, ListMark, SpotMark, PinMark, LevelMark, DepthMark, OneMark};
-ghost use Rattle.spots.specs.Spots.{Spots, Playable};
+ghost use Rattle.spots.specs.Spots.{Drivers, RowHolds, Spread, BlockSpots};
 use chip::ALL_NETS;
 use chip::Block;
 use chip::Branches;
@@ -25,6 +21,9 @@ use chip::Order;
 use chip::PINS;
 use chip::PinWords;
 use chip::Reached;
+use chip::Sizes;
+use chip::VARIABLES;
+use chip::VariableTable;
 use chip::wide;
 use structure::Shape;
 
@@ -54,20 +53,22 @@ fn list_row(b: usize, z: usize, reached: &Reached, lists: &mut [u16])
     }
 }
 
-// Lists the blocks that reach each output.
-fn list_blocks(o: usize, b: usize, reached: &Reached, lists: &mut [u16])
+// Lists the blocks that reach each output of the word outs.
+fn list_blocks(o: usize, b: usize, outs: u64, reached: &Reached, lists: &mut [u16])
     requires { ⌜ (o ≤ 64) × (b ≤ 4160) × (length (now lists) ≡ 1024) ⌝ }
-    ensures { λ _. ⌜ Changed (ListMark b o (now (reached .entry))) (now (lists .entry)) (now (lists .exit)) ⌝ }
+    ensures { λ _. ⌜ Changed (ListMark b o outs (now (reached .entry))) (now (lists .entry)) (now (lists .exit)) ⌝ }
 {
     let mut z = 0;
     while z < o {
-        list_row(b, z, reached, lists);
+        if words::has_bit(outs, z) {
+            list_row(b, z, reached, lists);
+        }
         z += 1;
     }
 }
 
 // Puts a place for block s of output z, where it is listed.
-fn put_spot(z: usize, s: usize, place: u16, lists: &[u16; 1024], spots: &mut [u16])
+fn put_spot(z: usize, s: usize, place: u16, lists: &VariableTable, spots: &mut [u16])
     requires { ⌜ (z < 64) × (length (now spots) ≡ 1024) ⌝ }
     ensures { λ _. ⌜ Changed (SpotMark 16 z s place (now (lists .entry))) (now (spots .entry)) (now (spots .exit)) ⌝ }
 {
@@ -81,7 +82,7 @@ fn put_spot(z: usize, s: usize, place: u16, lists: &[u16; 1024], spots: &mut [u1
 }
 
 // Puts a place for block s of each output in the word.
-fn put_outputs(o: usize, word: u64, s: usize, place: u16, lists: &[u16; 1024], spots: &mut [u16])
+fn put_outputs(o: usize, word: u64, s: usize, place: u16, lists: &VariableTable, spots: &mut [u16])
     requires { ⌜ (o ≤ 64) × (length (now spots) ≡ 1024) ⌝ }
     ensures { λ _. ⌜ Changed (PinMark o word s place (now (lists .entry))) (now (spots .entry)) (now (spots .exit)) ⌝ }
 {
@@ -97,38 +98,44 @@ fn put_outputs(o: usize, word: u64, s: usize, place: u16, lists: &[u16; 1024], s
     }
 }
 
-// Puts the places of one depth, whose clock begins at a place: each branch has its input's place in that clock, for the outputs in its word.
+// Puts the places of one depth, whose clock begins at a place: each branch has its input's place in that clock, for the outputs of its word that are in outs.
 fn put_level(
-    i: usize,
-    o: usize,
-    n: usize,
+    z: Sizes,
     from: usize,
+    outs: u64,
     branches: &Branches,
     block: &Block,
     words: &PinWords,
-    lists: &[u16; 1024],
+    lists: &VariableTable,
     spots: &mut [u16],
 )
-    requires { ⌜ (o ≤ 64) × (n ≤ 4096) × (from + i < 65536) × (length (now spots) ≡ 1024) ⌝ }
-    ensures { λ _. ⌜ Changed (LevelMark i o n from (now (branches .entry)) (now (block .entry)) (now (words .entry)) (now (lists .entry))) (now (spots .entry)) (now (spots .exit)) ⌝ }
+    requires { ⌜ (z .outputs ≤ 64) × (z .pins ≤ 4096) × (from + z .inputs < 65536) × (length (now spots) ≡ 1024) ⌝ }
+    ensures { λ _. ⌜ Changed (LevelMark (z .inputs) (z .outputs) (z .pins) from outs (now (branches .entry)) (now (block .entry)) (now (words .entry)) (now (lists .entry))) (now (spots .entry)) (now (spots .exit)) ⌝ }
 {
+    let i = z.inputs;
+    let n = z.pins;
     let mut p = 0;
     while p < n {
         let x = wide(branches[p]);
         if x < i {
-            put_outputs(o, words[p], wide(block[p]), (from + x) as u16, lists, spots);
+            put_outputs(
+                z.outputs,
+                words[p] & outs,
+                wide(block[p]),
+                (from + x) as u16,
+                lists,
+                spots,
+            );
         }
         p += 1;
     }
 }
 
-// Puts the places of all depths: depth e stands at clock d - e.
+// Puts the places of all depths, for the outputs in outs: depth e stands at clock d - e.
 fn put_depths(
-    i: usize,
-    c: usize,
-    o: usize,
-    n: usize,
-    d: usize,
+    z: Sizes,
+    s: Shape,
+    outs: u64,
     kinds: &Kinds,
     counts: &Counts,
     firsts: &Firsts,
@@ -136,12 +143,14 @@ fn put_depths(
     order: &Order,
     branches: &Branches,
     block: &Block,
-    lists: &[u16; 1024],
+    lists: &VariableTable,
     spots: &mut [u16],
 )
-    requires { ⌜ ((b : ℕ) × Even (tabled i c o (now kinds) (now counts) (now nets)) n d b (now firsts) (now order) (now branches) (now block)) × (length (now spots) ≡ 1024) ⌝ }
-    ensures { λ _. ⌜ Changed (DepthMark (tabled i c o (now (kinds .entry)) (now (counts .entry)) (now (nets .entry))) d (suc d) (now (block .entry)) (now (lists .entry))) (now (spots .entry)) (now (spots .exit)) ⌝ }
+    requires { ⌜ ((reached : List ℕ) × Ready (sized z (now kinds) (now counts) (now nets)) (z .pins) s (now firsts) (now order) (now branches) (now block) reached) × (length (now spots) ≡ 1024) ⌝ }
+    ensures { λ _. ⌜ Changed (DepthMark (sized z (now (kinds .entry)) (now (counts .entry)) (now (nets .entry))) (s .depth) (suc (s .depth)) outs (now (block .entry)) (now (lists .entry))) (now (spots .entry)) (now (spots .exit)) ⌝ }
 {
+    let i = z.inputs;
+    let d = s.depth;
     let mut before = [0u64; ALL_NETS];
     let mut at_net = [0u64; ALL_NETS];
     let mut words = [0u64; PINS];
@@ -149,8 +158,8 @@ fn put_depths(
     while e <= d {
         levels::level(
             i,
-            c,
-            o,
+            z.cells,
+            z.outputs,
             e,
             kinds,
             counts,
@@ -162,19 +171,17 @@ fn put_depths(
             &mut at_net,
         );
         let t = d - e;
-        put_level(i, o, n, t * i, branches, block, &words, lists, spots);
+        put_level(z, t * i, outs, branches, block, &words, lists, spots);
         before = at_net;
         e += 1;
     }
 }
 
-// Works out the places of a chip of class 2 or 3, in one pass over the depths.
+// Works out the places of a chip of class 2 or 3 for the outputs in outs, in one pass over the depths.
 pub fn find_spots<'a>(
-    i: usize,
-    c: usize,
-    o: usize,
-    n: usize,
+    z: Sizes,
     s: Shape,
+    outs: u64,
     kinds: &'a Kinds,
     counts: &'a Counts,
     firsts: &'a Firsts,
@@ -183,20 +190,18 @@ pub fn find_spots<'a>(
     branches: &'a Branches,
     block: &'a Block,
     reached: &'a Reached,
-    spots: &mut [u16; 1024],
+    spots: &mut VariableTable,
 )
-    requires { ⌜ ((cone : List ℕ) × Ready (tabled i c o (now kinds) (now counts) (now nets)) n s (now firsts) (now order) (now branches) (now block) (now reached) cone) ⌝ }
+    requires { ⌜ Ready (sized z (now kinds) (now counts) (now nets)) (z .pins) s (now firsts) (now order) (now branches) (now block) (now reached) ⌝ }
     requires { ⌜ s .class ≢ 1 ⌝ }
-    ensures { λ _. ⌜ Spots (tabled i c o (now (kinds .entry)) (now (counts .entry)) (now (nets .entry))) (s .depth) (now (reached .entry)) (now (spots .exit)) ⌝ }
+    ensures { λ _. ⌜ ((y : ℕ) → digit y outs ≡ true → BlockSpots (sized z (now (kinds .entry)) (now (counts .entry)) (now (nets .entry))) (s .depth) y (now (reached .entry)) (now (spots .exit))) ⌝ }
 {
-    let mut lists = [0u16; 1024];
-    list_blocks(o, s.blocks, reached, &mut lists);
+    let mut lists = [0u16; VARIABLES];
+    list_blocks(z.outputs, s.blocks, outs, reached, &mut lists);
     put_depths(
-        i,
-        c,
-        o,
-        n,
-        s.depth,
+        z,
+        s,
+        outs,
         kinds,
         counts,
         firsts,
@@ -210,7 +215,7 @@ pub fn find_spots<'a>(
 }
 
 // Puts a one at the place of each bit of m that is set.
-fn put_ones(z: usize, m: u64, spots: &[u16; 1024], play: &mut [u8])
+fn put_ones(z: usize, m: u64, spots: &VariableTable, play: &mut [u8])
     requires { ⌜ z < 64 ⌝ }
     requires { ⌜ ((k : ℕ) → digit k m ≡ true → getD (now spots) (16 * z + k) 0 < length (now play)) ⌝ }
     ensures { λ _. ⌜ Changed (OneMark 16 z m (now (spots .entry))) (now (play .entry)) (now (play .exit)) ⌝ }
@@ -224,12 +229,11 @@ fn put_ones(z: usize, m: u64, spots: &[u16; 1024], play: &mut [u8])
     }
 }
 
-// Sets the play of pattern m for output z, of d + 1 clocks.
-pub fn play_spots(i: usize, d: usize, z: usize, m: usize, spots: &[u16; 1024], play: &mut [u8])
-    requires { ⌜ ((N : Netlist) × (reached : List ℕ) × (i ≡ N .inputs) × Playable N d z m reached (now spots)) ⌝ }
+// Sets the play of d + 1 clocks of i inputs in which each bit of m stands at the place of its variable, by row z of the table.
+pub fn play_spots(i: usize, d: usize, z: usize, m: usize, spots: &VariableTable, play: &mut [u8])
+    requires { ⌜ (d ≤ 255) × (z < 64) × ((D : Drivers) × RowHolds i d z D (now spots) × (m < 2 ^ D .count)) ⌝ }
     requires { ⌜ suc d * i ≤ length (now play) ⌝ }
-    ensures { λ _. ⌜ ((N : Netlist) (reached : List ℕ) (low : ℕ → ℕ) → i ≡ N .inputs → Playable N d z m reached (now (spots .entry)) → Lowest N low
-        → Played N (blocks N low) d z m reached (now (play .entry)) (now (play .exit))) ⌝ }
+    ensures { λ _. ⌜ ((D : Drivers) → RowHolds i d z D (now (spots .entry)) → m < 2 ^ D .count → Spread i d m D (now (play .entry)) (now (play .exit))) ⌝ }
 {
     sweeps::clear((d + 1) * i, play);
     put_ones(z, m as u64, spots, play);

@@ -4,7 +4,8 @@ use mathlib.Core.Path.{_≡_}
 use mathlib.Core.Bool.{Bool, true, false}
 use mathlib.Core.List.{List}
 use lib.ListN.{length, getD}
-use Rattle.chip.specs.Netlist.{Netlist, InLimits, outPin, allPins}
+use Rattle.chip.specs.Netlist.{Netlist, outPin, allPins}
+use Rattle.chip.specs.Inner.Limits.{InLimits}
 use Rattle.chip.specs.Inner.Tables.{tabled, FirstPins, BranchTable}
 use Rattle.chip.specs.Pads.{padBuffer}
 use Rattle.chip.specs.Search.{digit}

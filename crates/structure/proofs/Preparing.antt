@@ -1,12 +1,14 @@
 -- The steps of preparing a chip, and that their results are a chip that is prepared.
 use Prim.Native.Nat.{ℕ, _≤_, _<_}
-use mathlib.Core.Path.{_≡_, subst}
+use mathlib.Core.Path.{_≡_, refl, subst}
 use mathlib.Core.List.{List}
 use native.Mathlib.Omega.{arith}
 use native.Mathlib.Decide.{decLt}
-use Rattle.chip.specs.Netlist.{Netlist, InLimits}
+use lib.ListN.{getD}
+use Rattle.chip.specs.Netlist.{Netlist}
+use Rattle.chip.specs.Inner.Limits.{InLimits}
 use Rattle.chip.specs.Inner.Tables.{FirstPins, BranchTable}
-use Rattle.chip.specs.Class.{Lowest, blocks}
+use Rattle.chip.specs.Class.{Branch, Lowest, blocks}
 use Rattle.chip.proofs.Blocks.{in-block}
 use Rattle.order.specs.Order.{Ordered}
 use Rattle.order.specs.Settled.{LoopFrom, Settled}
@@ -14,6 +16,8 @@ use Rattle.order.specs.declared.Ordering.{Ordering}
 use Rattle.order.specs.declared.Ordering.the-variants.{Done, Loop}
 use Rattle.order.proofs.Order.{order-free, ranked-of}
 use Rattle.chip.proofs.Plain.{within-branches}
+use Rattle.levels.specs.Branches.{Branched}
+use Rattle.levels.proofs.Branches.{entry-branch}
 use Rattle.blocks.specs.Labels.{Numbered}
 use Rattle.blocks.proofs.Numbers.{counted-few}
 use Rattle.balance.specs.Balance.{FewLabels, LowestUneven}
@@ -44,8 +48,10 @@ module _ (N : Netlist) (L : InLimits N) (low : ℕ → ℕ) (K : Lowest N low) (
   unfolding blocks
   count-few = omega (arith, counted-few N low (N .inputs) table count (record { count-is = n .count-is; block-is = λ y p _ b. n .block-is y p b }), n .count-is, L .few-inputs, L .few-pins)
 
-  pub blocks-few : FewLabels N table
-  blocks-few x p b = omega (arith, n .block-is x p b, in-block N low K p (b .pin) (rw (b .names) (b .input)), count-few)
+  pub blocks-few : (i m : ℕ) (branches : List ℕ) → Branched N i m branches → FewLabels i m branches table
+  blocks-few i m branches B p h l =
+      let b : Branch N (getD branches p 0) p = entry-branch B h refl l in
+      omega (arith, n .block-is _ p b, in-block N low K p (b .pin) (rw (b .names) (b .input)), count-few)
 
   pub blocks-one : OneInput N table
   blocks-one = blocks-own N low K table (n .block-is)

@@ -6,10 +6,11 @@ use mathlib.Core.List.{List, _++_}
 use native.Mathlib.Omega.{arith}
 use lib.ListN.{length, take, drop}
 use lib.Seq.{take-append-seam}
-use Rattle.chip.specs.Netlist.{Netlist, Sound, InLimits, sumBelow, allPins}
+use Rattle.chip.specs.Netlist.{Netlist, sumBelow, allPins}
+use Rattle.chip.specs.Inner.Limits.{Sound, InLimits}
 use Rattle.chip.specs.Got.{got}
 use Rattle.chip.specs.Format.{Parsed, readOf, chipOf}
-use Rattle.chip.specs.Pads.{NoFlopAtPad}
+use Rattle.chip.specs.Inner.Laws.{NoFlopAtPad}
 use Rattle.chip.specs.Class.{LoopFree, Depth, Lowest, Blocks, blocksOf, blocks, Prepared}
 use Rattle.chip.specs.Transformed.{oldCell, copies, transformed}
 use Rattle.chip.specs.File.{fileOf, transformedFile}

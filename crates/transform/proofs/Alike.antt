@@ -7,7 +7,8 @@ use native.Mathlib.Decide.{decLt}
 use native.Mathlib.Omega.{arith}
 use borrow.Author.Tests.{le-ltb}
 use lib.Dec.{eqb, leb, ltb}
-use Rattle.chip.specs.Netlist.{Netlist, InLimits, Sound, PinOf, sumBelow, firstPin, outPin, allPins, bit}
+use Rattle.chip.specs.Netlist.{Netlist, PinOf, sumBelow, firstPin, outPin, allPins, bit}
+use Rattle.chip.specs.Inner.Limits.{InLimits, Sound}
 use Rattle.chip.specs.Pads.{some, isBuf, fed, back, source, padBuffer, intoPad, branchOf}
 use Rattle.chip.specs.Class.{Feeds, direct, via, LoopFree, Reach, here, on, Branch, Together, same, next, Lowest, Blocks, tally, leads, blocksOf, ownerOf, blocks}
 use Rattle.chip.specs.Transformed.{onWay, copied, copiesOf, copies, copyAt, copyBlock, copyCell, netFor, home, oldCell, openedNet, opened, flat, transformed}

@@ -7,7 +7,8 @@ use native.Mathlib.Omega.{arith}
 use native.Mathlib.Decide.{decLt}
 use borrow.Author.Tests.{lt-ltb, le-ltb}
 use lib.ListN.{length, getD, replicate}
-use Rattle.chip.specs.Netlist.{Netlist, InLimits, outPin, allPins}
+use Rattle.chip.specs.Netlist.{Netlist, outPin, allPins}
+use Rattle.chip.specs.Inner.Limits.{InLimits}
 use Rattle.chip.specs.Class.{Blocks, blocks}
 use Rattle.chip.specs.Transformed.{copies, transformed}
 use Rattle.chip.specs.File.{fileOf, paddedFile, transformedFile}

@@ -10,7 +10,8 @@ use borrow.Author.Tests.{lt-ltb, le-ltb, eq-eqb, ne-eqb}
 use lib.Dec.{ltb}
 use lib.ListN.{length, getD, set}
 use lib.Seq.{getD-set-same, getD-set-other}
-use Rattle.chip.specs.Netlist.{Netlist, Sound, firstPin, outPin, allPins, bit}
+use Rattle.chip.specs.Netlist.{Netlist, firstPin, outPin, allPins, bit}
+use Rattle.chip.specs.Inner.Limits.{Sound}
 use Rattle.chip.specs.Pads.{source, intoPad, branchOf}
 use Rattle.chip.specs.Class.{Blocks, blocks}
 use Rattle.chip.specs.Transformed.{copied, copyAt, copyBlock, copyCell, netFor, home, openedNet, transformed}

@@ -5,7 +5,8 @@ use mathlib.Core.List.{List}
 use native.Mathlib.Decide.{decLt}
 use native.Mathlib.Omega.{arith}
 use lib.ListN.{getD}
-use Rattle.chip.specs.Netlist.{Netlist, Sound}
+use Rattle.chip.specs.Netlist.{Netlist}
+use Rattle.chip.specs.Inner.Limits.{Sound}
 use Rattle.chip.specs.Class.{Blocks}
 use Rattle.chip.specs.Transformed.{oldCell, copies, flat, transformed}
 use Rattle.chip.specs.Inner.Tables.{tabled}

@@ -6,7 +6,8 @@ ghost use mathlib.Core.List.{List};
 ghost use Prim.Native.Nat.{ℕ, _+_, _*_, _≤_, _<_};
 ghost use lib.Dec.{ltb};
 ghost use lib.ListN.{length, getD};
-ghost use Rattle.chip.specs.Netlist.{Netlist, allPins, InLimits};
+ghost use Rattle.chip.specs.Netlist.{Netlist, allPins};
+ghost use Rattle.chip.specs.Inner.Limits.{InLimits};
 ghost use Rattle.chip.specs.Class.{LoopFree, Lowest, blocks};
 ghost use Rattle.chip.specs.Transformed.{netFor, home, flat};
 ghost use Rattle.chip.specs.File.{transformedFile};
@@ -21,12 +22,14 @@ use chip::Branches;
 use chip::CELLS;
 use chip::Counts;
 use chip::Firsts;
+use chip::INPUTS;
 use chip::Kinds;
 use chip::Nets;
 use chip::PINS;
 use chip::Transformed;
 use chip::flat_kind;
 use chip::wide;
+use copies::COPIES;
 use opening::Chip;
 use opening::Opening;
 
@@ -100,7 +103,7 @@ fn new_net(
     nets: &Nets,
     branches: &Branches,
     block: &Block,
-    lowest: &[u16; 64],
+    lowest: &[u16; INPUTS],
     marks: &[u8],
     numbers: &[u16],
     p: usize,
@@ -140,7 +143,7 @@ fn old_nets(
     nets: &Nets,
     branches: &Branches,
     block: &Block,
-    lowest: &[u16; 64],
+    lowest: &[u16; INPUTS],
     marks: &[u8],
     numbers: &[u16],
     table: &mut [u16],
@@ -218,7 +221,7 @@ fn put_tables(
     nets: &Nets,
     branches: &Branches,
     block: &Block,
-    lowest: &[u16; 64],
+    lowest: &[u16; INPUTS],
     marks: &[u8],
     numbers: &[u16],
     out: &mut [u8],
@@ -282,17 +285,14 @@ fn put_chip<'a>(
     if 64 < b {
         return Transformed::Refused(17, b);
     }
-    let mut lowest = [0u16; 64];
-    let mut marks = [0u8; 65536];
-    let mut numbers = [0u16; 65536];
+    let mut lowest = [0u16; INPUTS];
+    let mut marks = [0u8; COPIES];
+    let mut numbers = [0u16; COPIES];
     let m = copies::find_copies(
         i,
         c,
-        o,
         n,
         b,
-        kinds,
-        counts,
         firsts,
         nets,
         branches,

@@ -8,23 +8,24 @@ use native.Mathlib.Omega.{arith}
 use native.Mathlib.Decide.{ℕ-discrete, decLt}
 use borrow.Author.Tests.{le-ltb}
 use lib.ListN.{length, getD}
-use lib.Bits.{bitAnd, and-le-l}
-use Rattle.chip.specs.Netlist.{Netlist, outPin, allPins, InLimits}
+use lib.Bits.{bitAnd}
+use Rattle.chip.specs.Netlist.{Netlist, outPin, allPins}
+use Rattle.chip.specs.Inner.Limits.{InLimits}
 use Rattle.chip.specs.Inner.Tables.{tabled}
 use Rattle.chip.specs.Class.{Reach, here, on}
 use Rattle.chip.specs.Search.{digit, SiteReaches}
 use Rattle.chip.specs.declared.Site.the-variants.{Net, Pin}
-use Rattle.words.specs.Bits.{LowestBit}
-use Rattle.words.proofs.Bits.{digit-zero, word-zero}
+use Rattle.words.proofs.Bits.{digit-zero}
 use Rattle.rows.specs.Rows.{Filled}
 use Rattle.flip.proofs.Flips.{no-out}
 use Rattle.slots.specs.Slots.{relOf}
-use Rattle.walk.specs.Walk.{outOf, widthOf, TooWide}
+use Rattle.walk.specs.Walk.{widthOf}
 use Rattle.known.specs.Setting.{Shows}
-use Rattle.rows.proofs.Bits.{split, meet}
-use Rattle.groups.specs.Groups.{Sofar}
+use Rattle.outputs.specs.Groups.{Sofar}
 use Rattle.groups.specs.Chunks.{Store}
-use Rattle.verdicts.specs.Verdicts.{SiteMasks, Widths, WideWord, Started, sizeOf, Sought, AllSofar, Judged}
+use Rattle.outputs.specs.Sites.{SiteMasks, Widths, WideWord, Started, sizeOf}
+use Rattle.outputs.proofs.Wide.{not-wide}
+use Rattle.verdicts.specs.Verdicts.{Sought, AllSofar, Judged}
 
 -- two tables of zeros with the ones in their slot
 pub store-blank : (c : ℕ) (a goods vals : List ℕ) → length a ≡ 16672 → ((x : ℕ) → getD a x 0 ≡ 0) → Filled 16656 16 (λ k. 2 ^ 64 - 1) a goods → Filled 16656 16 (λ k. 2 ^ 64 - 1) a vals → Store c goods vals
@@ -44,35 +45,6 @@ store-blank c a goods vals l z F G =
         ]
       ];
     }
-
--- ---- the lowest wide output
-
-module _ (o b outs wides : ℕ) (reached widths : List ℕ) (W : Widths o b reached widths) (D : WideWord o widths wides) where
-  -- an output that is not in both words is not wide
-  not-wide : (y : ℕ) → y < o → outOf outs y ≡ true → digit y (bitAnd outs wides) ≡ false → widthOf b reached y ≤ 16
-  not-wide y l d e = elim (decLt 16 (widthOf b reached y)) [
-    | yes h ↦ absurd (false≢true (sym e ∙ meet outs wides y d (D .all y l (omega (arith, W .at y l)))))
-    | no g ↦ omega arith
-  ]
-
-  pub wide-in-none : bitAnd outs wides ≡ 0 → TooWide o b outs reached o
-  wide-in-none e =
-      record { upto = omega arith; in-word = λ l. absurd (omega arith); wide = λ l. absurd (omega arith); none-below = λ y l d. not-wide y l d (ap (digit y) e ∙ digit-zero y) }
-
-  pub wide-first : (r : ℕ) → outs < 2 ^ 64 → bitAnd outs wides ≢ 0 → LowestBit (bitAnd outs wides) r → TooWide o b outs reached r
-  wide-first r l g L =
-      let low : r < 64 = elim (decLt r 64) [
-        | yes h ↦ h
-        | no n ↦ absurd (g (word-zero (bitAnd outs wides) (omega (arith, and-le-l outs wides)) (λ k h. L .zeros k (omega arith))))
-      ] in
-      let both = split outs wides r (L .one low) in
-      let it-is = D .wide r (both .1) in
-      record {
-        upto = omega (arith, it-is .0);
-        in-word = λ h. both .0;
-        wide = λ h. omega (arith, it-is .1, W .at r h);
-        none-below = λ y h d. not-wide y (omega (arith, it-is .0)) d (L .zeros y h);
-      }
 
 -- ---- what is looked for
 

@@ -1,4 +1,2 @@
-pub mod Tables
-pub mod Answers
 pub mod Outputs
 pub mod Judging

@@ -21,11 +21,12 @@ use Rattle.faults.specs.Numbers.{faultNumber}
 use Rattle.known.specs.Setting.{Shows, Long}
 use Rattle.stages.specs.Stage.{OutsOnly}
 use Rattle.rows.proofs.Bits.{split, meet}
-use Rattle.groups.specs.Groups.{Sofar, Joined, Alike}
+use Rattle.outputs.specs.Groups.{Sofar, Joined, Alike}
 use Rattle.groups.proofs.Groups.{group-more, sofar-start}
 use Rattle.walk.specs.Walk.{widthOf}
 use Rattle.benches.specs.Benches.{Group}
-use Rattle.verdicts.specs.Verdicts.{sizeOf, Sought, LikeTried, AllSofar}
+use Rattle.outputs.specs.Sites.{sizeOf}
+use Rattle.verdicts.specs.Verdicts.{Sought, LikeTried, AllSofar}
 
 -- what is left of todo once a group is tried
 xor-true : (a b : Bool) → xor a b ≡ true → (b ≡ true → a ≡ true) → (a ≡ true) × (b ≡ false)

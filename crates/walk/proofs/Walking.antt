@@ -8,12 +8,12 @@ use Rattle.chip.specs.Netlist.{Netlist}
 use Rattle.chip.specs.Class.{Lowest}
 use Rattle.chip.proofs.Theorem.{class-23}
 use Rattle.chip.proofs.Unique.{one-low}
+use Rattle.structure.specs.Inner.Shape.{Ready}
 use Rattle.structure.specs.declared.Shape.{Shape}
 use Rattle.structure.proofs.Preparing.{count-few}
 use Rattle.slots.specs.Slots.{Laid}
-use Rattle.walk.specs.Walk.{Ready}
 
-module _ (N : Netlist) (n : ℕ) (s : Shape) (firsts order branches block reached cone : List ℕ) (R : Ready N n s firsts order branches block reached cone) where
+module _ {N : Netlist} {n : ℕ} {s : Shape} {firsts order branches block reached : List ℕ} (R : Ready N n s firsts order branches block reached) where
   pub ready-few : s .blocks ≤ 4160
   ready-few =
       omega (arith, R .shaped .count, count-few N (R .limits) (R .shaped .low) (R .shaped .prepared .lowest) block (s .blocks) (record { count-is = R .shaped .count; block-is = R .shaped .block-table }))

@@ -1,3 +1,4 @@
+-- After k variables those of input x have their good words again, and no other slot has changed.
 use Prim.Native.Nat.{_+_, _-_, _*_, _≤_}
 use mathlib.Core.Path.{_≡_, _∙_}
 use native.Mathlib.Omega.{arith}

@@ -1,3 +1,4 @@
+-- If the variable's block is of input x its slot gets the good words back, and otherwise nothing is stored.
 use Prim.Native.Nat.{_+_, _*_}
 use mathlib.Core.Path.{sym, _∙_}
 use lib.ListN.{getD}

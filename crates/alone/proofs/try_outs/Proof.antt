@@ -1,9 +1,11 @@
+-- The first e of the 2 * o faults have gone on, and number e is the pin of output e / 2 stuck at e % 2.
 use Prim.Native.Nat.{_+_, _-_, _*_, _≤_}
 use mathlib.Core.Path.{_≡_, refl, sym, _∙_}
 use native.Mathlib.Omega.{arith}
 use borrow.Author.Needs.{needs}
-use Rattle.alone.specs.Alone.{Went, Between, OutStep}
-use Rattle.alone.proofs.Steps.{went-none, went-same}
+use Rattle.known.specs.Setting.{Went}
+use Rattle.alone.specs.Alone.{Between, OutStep}
+use Rattle.known.proofs.Steps.{went-none, went-same}
 use Rattle.alone.proofs.Outs.{outs-more}
 use Rattle.alone.proofs.try_outs.Statement.{statement}
 use Rattle.alone.proofs.try_outs.Tie as tie

@@ -1,3 +1,4 @@
+-- `balance::meet_inputs` meets its contract: each input passed has its word added, and the lowest whose two words meet is known.
 use borrow.Author.Needs.{needs}
 use mathlib.Core.Path.{_≡_}
 use Prim.Native.Nat.{_-_, _≤_}
@@ -9,10 +10,10 @@ use Rattle.balance.proofs.meet_inputs.Statement.{statement}
 use Rattle.balance.proofs.meet_inputs.Tie as tie
 
 abbrev Inv-loop : tie.InvT-loop
-Inv-loop i reached best words₀ lowest₀ x₀ words lowest x = (x ≤ i) × (length words ≡ 64) × InputsMet x reached words₀ best words lowest
+Inv-loop i best reached words₀ lowest₀ x₀ words lowest x = (x ≤ i) × (length words ≡ 64) × InputsMet x reached words₀ best words lowest
 
 abbrev μ-loop : tie.MeasureT-loop
-μ-loop i reached best words₀ lowest₀ x₀ words lowest x = i - x
+μ-loop i best reached words₀ lowest₀ x₀ words lowest x = i - x
 
 loop-holds : tie.Need-loop-holds Inv-loop μ-loop
 loop-holds c = (omega arith, c .words .given .0 .1, met-none _ _ _)

@@ -1,3 +1,4 @@
+-- One callee makes each of the tables, and the heads of the pins tell that each branch has a block with a slot.
 use native.Mathlib.Omega.{arith}
 use borrow.Author.Needs.{needs}
 use Rattle.benches.proofs.bench.Statement.{statement}

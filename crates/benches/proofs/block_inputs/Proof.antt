@@ -1,3 +1,4 @@
+-- After p pins the block of each branch has its input, and a later store keeps it, since the branches of a block are of one input.
 use Prim.Native.Nat.{_-_, _≤_}
 use mathlib.Core.Path.{_≡_}
 use mathlib.Core.Logic.{⊎-elim}

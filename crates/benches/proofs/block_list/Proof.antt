@@ -1,3 +1,4 @@
+-- w counts the blocks below k that reach output z, so block k goes to entry w, and the tally of all b keeps w below 16.
 use Prim.Native.Nat.{_-_, _≤_}
 use mathlib.Core.Path.{_≡_, refl, sym, _∙_}
 use mathlib.Core.Logic.{⊎-elim}
@@ -6,8 +7,9 @@ use native.Mathlib.Omega.{arith}
 use Rattle.chip.specs.Class.{tally}
 use Rattle.chip.proofs.Blocks.{tally-most, tally-past}
 use Rattle.slots.specs.Slots.{relOf}
+use Rattle.walk.proofs.Widths.{tally-yes, tally-no}
 use Rattle.benches.specs.Benches.{BlockList}
-use Rattle.benches.proofs.Tables.{list-more, list-skip, count-more, count-skip}
+use Rattle.benches.proofs.Tables.{list-more, list-skip}
 use borrow.Author.Needs.{needs}
 use Rattle.benches.proofs.block_list.Statement.{statement}
 use Rattle.benches.proofs.block_list.Tie as tie
@@ -61,10 +63,10 @@ loop-again c =
     ⊎-elim
     (λ x.
     let r : rel (l .k) ≡ true = sym e ∙ x .0 .taken in
-    (omega arith, rw (x .2) (count-more (l .k) (l .w) rel (l .list) (l .inv .1) (l .inv .2) r), rw (x .1) (list-more (l .k) (l .w) rel (l .list) (l .inv .1) (l .inv .2) (omega (arith, l .inv .1, s .pre .2, tally-past rel (l .k) (s .args .b) (omega arith) r)) r)))
+    (omega arith, rw (x .2) (tally-yes rel (l .w) (l .k) (l .inv .1) r), rw (x .1) (list-more (l .k) (l .w) rel (l .list) (l .inv .1) (l .inv .2) (omega (arith, l .inv .1, s .pre .2, tally-past rel (l .k) (s .args .b) (omega arith) r)) r)))
     (λ x.
     let r : rel (l .k) ≡ false = sym e ∙ x .0 .left in
-    (omega arith, rw (x .2) (count-skip (l .k) (l .w) rel (l .list) (l .inv .1) (l .inv .2) r), rw (x .1) (list-skip (l .k) (l .w) rel (l .list) (l .inv .1) (l .inv .2) r)))
+    (omega arith, rw (x .2) (tally-no rel (l .w) (l .k) (l .inv .1) r), rw (x .1) (list-skip (l .k) (l .w) rel (l .list) (l .inv .1) (l .inv .2) r)))
     (c .if1 .came)
 
 same-length : tie.Need-same-length Inv-loop μ-loop

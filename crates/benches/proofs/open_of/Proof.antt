@@ -1,3 +1,4 @@
+-- A cell whose net goes back to an input is a pad buffer and gets 0, and for any other cell `left_at` covers its net and its pins.
 use mathlib.Core.Path.{refl}
 use native.Mathlib.Omega.{arith}
 use borrow.Author.Needs.{needs}

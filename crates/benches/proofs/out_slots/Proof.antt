@@ -1,3 +1,4 @@
+-- After y outputs each of them has the slot of its own pin, pin n - o + y, and the entries behind are still 0.
 use Prim.Native.Nat.{_-_, _≤_}
 use mathlib.Core.Path.{_≡_}
 use native.Mathlib.Omega.{arith}

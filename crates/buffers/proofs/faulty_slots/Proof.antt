@@ -1,3 +1,4 @@
+-- What the fault decides a pin to becomes a constant's slot, and a pin that is not decided keeps its own.
 use Rattle.buffers.proofs.Slots.{faulty-is}
 use borrow.Author.Needs.{needs}
 use Rattle.buffers.proofs.faulty_slots.Statement.{statement}

@@ -1,3 +1,4 @@
+-- The cells worked out on the faulty slots give the faulty outputs to look at, and copying all words puts the good ones back.
 use Prim.Native.Nat.{_-_}
 use mathlib.Core.Path.{refl, ap, _∙_}
 use native.Mathlib.Omega.{arith}
@@ -8,53 +9,85 @@ use borrow.Author.Needs.{needs}
 use Rattle.buffers.proofs.run_fault.Statement.{statement}
 use Rattle.buffers.proofs.run_fault.Tie as tie
 
--- src/lib.rt:108:22
+-- each step back is named after where it leads: to the start, to the pins copied, to the cells worked out, and to the look at them
+abbrev start : tie.After-copy-pins → tie.Start
+start c = c .before .before .before .before .before .before .before .before .before .before
+
+abbrev copied : tie.After-good-cells → tie.After-copy-pins
+copied c = c .before .before .before .before .before .before .before
+
+abbrev worked : tie.After-look-all → tie.After-good-cells
+worked c = c .before .before .before .before .before .before .before .before
+
+abbrev looked : tie.After-copy-words → tie.After-look-all
+looked c = c .before .before .before .before .before .before .before .before
+
 sub-copy-pins : tie.Need-sub-copy-pins
 sub-copy-pins c = search needs
 
--- src/lib.rt:108:40
 slice-aggregate-copy-pins : tie.Need-slice-aggregate-copy-pins
 slice-aggregate-copy-pins c = search needs
 
--- src/lib.rt:108:5
 copy-pins-requires : tie.Need-copy-pins-requires
 copy-pins-requires c κs = search needs
 
--- src/lib.rt:109:5
 good-cells-requires : tie.Need-good-cells-requires
-good-cells-requires c κs = let s = c .before .before .before .before .before .before .before .before .before .before .before .before .before .before .before .before in (s .pre .0, ap length (s .pre .1 .1 .1 .0) ∙ s .pre .1 .1 .0 .3)
+good-cells-requires c κs =
+    let s = start (c .before .before .before .before .before .before) in
+    (s .pre .0, ap length (s .pre .1 .1 .1 .0) ∙ s .pre .1 .1 .0 .3)
 
--- src/lib.rt:110:36
 slice-aggregate-look-all : tie.Need-slice-aggregate-look-all
 slice-aggregate-look-all c = search needs
 
--- src/lib.rt:110:5
 look-all-requires : tie.Need-look-all-requires
-look-all-requires c κs = let s = c .before .before .before .before .before .before .before .before .before .before .before .before .before .before .before .before .before .before .before .before .before .before .before .before in let a = s .args in let F = c .before .before .before .before .before .before .before .before .before .before .before .before .before .before .copy-pins .ensures in let W = c .before .before .before .before .before .before .before .good-cells .ensures in let long = W .long ∙ ap length (s .pre .1 .1 .1 .0) ∙ s .pre .1 .1 .0 .3 in ((s .pre .1 .1 .0 .0, s .pre .1 .1 .0 .1, s .pre .1 .1 .0 .2, F .long, λ z l. (omega (arith, s .pre .1 .1 .0 .4 z l, s .pre .1 .1 .0 .3), omega (arith, ends-low (a .n - a .o) (a .o) (a .faulty .now) _ _ (s .pre .1 .0 .0) refl (λ y. zero-at 64 y) F (s .pre .1 .0 .3) z l, long))), s .pre .1 .1 .1 .1)
+look-all-requires c κs =
+    let g = c .before .before .before .before .before .before .before in
+    let p = copied g in
+    let s = start p in
+    let a = s .args in
+    let F = p .copy-pins .ensures in
+    let W = g .good-cells .ensures in
+    let long = W .long ∙ ap length (s .pre .1 .1 .1 .0) ∙ s .pre .1 .1 .0 .3 in (
+      (
+        s .pre .1 .1 .0 .0,
+        s .pre .1 .1 .0 .1,
+        s .pre .1 .1 .0 .2,
+        F .long,
+        λ z l. (omega (arith, s .pre .1 .1 .0 .4 z l, s .pre .1 .1 .0 .3), omega (arith, ends-low (a .n - a .o) (a .o) (a .faulty .now) _ _ (s .pre .1 .0 .0) refl (λ y. zero-at 64 y) F (s .pre .1 .0 .3) z l, long)),
+      ),
+      s .pre .1 .1 .1 .1,
+    )
 
--- src/lib.rt:111:5
 copy-words-requires : tie.Need-copy-words-requires
-copy-words-requires c κs = let s = c .before .before .before .before .before .before .before .before .before .before .before .before .before .before .before .before .before .before .before .before .before .before .before .before .before .before .before .before .before .before .before .before in let W = c .before .before .before .before .before .before .before .before .before .before .before .before .before .before .before .good-cells .ensures in (omega (arith, s .pre .1 .1 .0 .3), omega (arith, W .long, ap length (s .pre .1 .1 .1 .0), s .pre .1 .1 .0 .3))
+copy-words-requires c κs =
+    let g = worked (c .before .before .before .before .before .before .before) in
+    let s = start (copied g) in
+    let W = g .good-cells .ensures in
+    (omega (arith, s .pre .1 .1 .0 .3), omega (arith, W .long, ap length (s .pre .1 .1 .1 .0), s .pre .1 .1 .0 .3))
 
--- src/lib.rt:80:1
 same-length : tie.Need-same-length
 same-length c = search needs
 
--- src/lib.rt:80:1
 same-length-2 : tie.Need-same-length-2
 same-length-2 c = search needs
 
--- src/lib.rt:80:1
 same-length-3 : tie.Need-same-length-3
 same-length-3 c = search needs
 
--- src/lib.rt:80:1
 same-length-4 : tie.Need-same-length-4
 same-length-4 c = search needs
 
--- src/lib.rt:80:1
 returns : tie.Need-returns
-returns c = let s = c .before .before .before .before .before .before .before .before .before .before .before .before .before .before .before .before .before .before .before .before .before .before .before .before .before .before .before .before .before .before .before .before .before .before .before in let a = s .args in let W = c .before .before .before .before .before .before .before .before .before .before .before .before .before .before .before .before .before .before .good-cells .ensures in (ran-is (a .c) (a .o) (a .n) (a .f) (a .q) (a .u) (a .kinds .now) (a .counts .now) (a .firsts .now) (a .faulty .now) (a .order .now) (a .reach .now) (a .outs .now) (a .goods .now) (a .vals .now) _ _ _ (a .left .now) (a .best .now) (a .pat .now) _ _ _ (s .pre .1 .1 .1 .0) W (c .before .before .before .before .before .before .before .before .before .before .before .before .before .before .before .before .before .before .before .before .before .before .before .before .before .copy-pins .ensures) (c .before .before .before .before .before .before .before .before .before .before .look-all .ensures), put-back (a .goods .now) _ _ (s .pre .1 .1 .0 .3) (W .long ∙ ap length (s .pre .1 .1 .1 .0) ∙ s .pre .1 .1 .0 .3) (c .before .before .copy-words .ensures))
+returns c =
+    let k = looked (c .before .before) in
+    let g = worked k in
+    let p = copied g in
+    let s = start p in
+    let a = s .args in
+    let W = g .good-cells .ensures in (
+      ran-is _ _ _ _ _ _ _ _ _ _ _ _ _ _ _ _ _ _ _ _ _ _ _ _ (s .pre .1 .1 .1 .0) W (p .copy-pins .ensures) (k .look-all .ensures),
+      put-back (a .goods .now) _ _ (s .pre .1 .1 .0 .3) (W .long ∙ ap length (s .pre .1 .1 .1 .0) ∙ s .pre .1 .1 .0 .3) (c .before .before .copy-words .ensures),
+    )
 
 pub run-fault-spec : {M : Type 1} → statement M
 run-fault-spec =

@@ -1,11 +1,12 @@
+-- After j cells the faults of the pad buffers among them went on, and the good words stand again after each.
 use Prim.Native.Nat.{_-_, _≤_}
 use mathlib.Core.Path.{_≡_, sym, ap, _∙_}
 use mathlib.Core.Logic.{⊎-elim}
 use native.Mathlib.Omega.{arith}
 use borrow.Author.Needs.{needs}
 use lib.ListN.{length}
-use Rattle.alone.specs.Alone.{Went}
-use Rattle.alone.proofs.Steps.{went-none}
+use Rattle.known.specs.Setting.{Went}
+use Rattle.known.proofs.Steps.{went-none}
 use Rattle.buffers.specs.Buffers.{FaultStep, PadFault}
 use Rattle.buffers.proofs.Faults.{pads-more, pads-skip, pads-all}
 use Rattle.buffers.proofs.try_pads.Statement.{statement}

@@ -1,12 +1,13 @@
+-- Each turn counts down from the number of turns, so the loop ends.
 use borrow.Author.Needs.{needs}
 use Rattle.calls.proofs.run.Statement.{statement}
 use Rattle.calls.proofs.run.Tie as tie
 
 abbrev Inv-loop : tie.InvT-loop
-Inv-loop file₀ text₀ lent₀ line₀ turns₀ file text lent line turns = Unit {0}
+Inv-loop file₀ values₀ lent₀ line₀ turns₀ file values lent line turns = Unit {0}
 
 abbrev μ-loop : tie.MeasureT-loop
-μ-loop file₀ text₀ lent₀ line₀ turns₀ file text lent line turns = turns
+μ-loop file₀ values₀ lent₀ line₀ turns₀ file values lent line turns = turns
 
 loop-holds : tie.Need-loop-holds Inv-loop μ-loop
 loop-holds c = search needs

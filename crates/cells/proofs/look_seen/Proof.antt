@@ -1,3 +1,4 @@
+-- At an output that is not seen the words are the good ones, so no fault shows there, and the seen ones are all to look at.
 use Rattle.cells.proofs.Trying.{looked-all}
 use Prim.Native.Nat.{_+_, _*_}
 use borrow.Author.Needs.{needs}

@@ -1,3 +1,4 @@
+-- The two heads that are read bound the readers of cell j, so what mark says of them is the contract.
 use borrow.Author.Needs.{needs}
 use Rattle.cells.proofs.mark_readers.Statement.{statement}
 use Rattle.cells.proofs.mark_readers.Tie as tie

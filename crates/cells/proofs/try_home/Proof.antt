@@ -1,3 +1,4 @@
+-- With a lane set the home is flipped and looked at, and with none no open fault changes the home, so none can show.
 use Rattle.cells.proofs.Trying.{home-still}
 use mathlib.Core.Path.{refl}
 use native.Mathlib.Omega.{arith}
@@ -5,69 +6,74 @@ use borrow.Author.Needs.{needs}
 use Rattle.cells.proofs.try_home.Statement.{statement}
 use Rattle.cells.proofs.try_home.Tie as tie
 
--- src/lib.rt:247:39
-add-home-lanes : tie.Need-add-home-lanes
-add-home-lanes c = let s = c .before .before .before .before .before .before .before .before .before .before .before .before .before .before .before .before in omega (arith, s .pre .1 .0 .1, s .pre .0 .cell (s .args .p) (s .pre .1 .0 .0))
+-- back from where the lanes of the home are known to the start
+abbrev start : tie.After-home-lanes → tie.Start
+start c = c .before .before .before .before .before .before .before .before .before .before .before .before .before .before .before .before .before .before .before
 
--- src/lib.rt:247:74
+add-home-lanes : tie.Need-add-home-lanes
+add-home-lanes c =
+    let s = c .before .before .before .before .before .before .before .before .before .before .before .before .before .before .before .before in
+    omega (arith, s .pre .1 .0 .1, s .pre .0 .cell (s .args .p) (s .pre .1 .0 .0))
+
 slice-aggregate-home-lanes : tie.Need-slice-aggregate-home-lanes
 slice-aggregate-home-lanes c = search needs
 
--- src/lib.rt:247:5
 home-lanes-requires : tie.Need-home-lanes-requires
-home-lanes-requires c κs = let s = c .before .before .before .before .before .before .before .before .before .before .before .before .before .before .before .before .before .before in let w = s .pre .1 .1 .1 .1 in let lg = s .pre .1 .0 .2 in ((w .0 .0, w .0 .1, omega (arith, s .pre .1 .0 .1, s .pre .0 .cell (s .args .p) (s .pre .1 .0 .0), lg), rw lg (w .0 .2)), (w .1 .0, refl))
+home-lanes-requires c κs =
+    let s = c .before .before .before .before .before .before .before .before .before .before .before .before .before .before .before .before .before .before in
+    let w = s .pre .1 .1 .1 .1 in
+    let lg = s .pre .1 .0 .2 in
+    ((w .0 .0, w .0 .1, omega (arith, s .pre .1 .0 .1, s .pre .0 .cell (s .args .p) (s .pre .1 .0 .0), lg), rw lg (w .0 .2)), (w .1 .0, refl))
 
--- src/lib.rt:248:19
 slice-aggregate-any : tie.Need-slice-aggregate-any
 slice-aggregate-any c = search needs
 
--- src/lib.rt:248:8
 any-requires : tie.Need-any-requires
 any-requires c κs = search needs
 
--- src/lib.rt:270:13
 slice-aggregate-flip-look : tie.Need-slice-aggregate-flip-look
 slice-aggregate-flip-look c = search needs
 
--- src/lib.rt:249:9
 flip-look-requires : tie.Need-flip-look-requires
-flip-look-requires c κs = let s = c .before .before .before .before .before .before .before .before .before .before .before .before .before .before .before .before .before .before .before .before .before .before .before .before .before .before .before .before .before .before in let k = s .pre .1 .0 in let w = s .pre .1 .1 in (s .pre .0, ((k .0, k .1, c .before .before .before .before .before .before .before .before .before .before .before .home-lanes .ensures .long, k .2, k .3), (w .0, (w .1 .0, (w .1 .1 .0, (w .1 .1 .1, c .before .before .before .before .before .before .before .before .before .before .before .home-lanes .ensures))))))
+flip-look-requires c κs =
+    let h = c .before .before .before .before .before .before .before .before .before .before .before in
+    let s = start h in
+    let k = s .pre .1 .0 in
+    let w = s .pre .1 .1 in
+    (s .pre .0, ((k .0, k .1, h .home-lanes .ensures .long, k .2, k .3), (w .0, (w .1 .0, (w .1 .1 .0, (w .1 .1 .1, h .home-lanes .ensures))))))
 
--- src/lib.rt:209:1
 same-length : tie.Need-same-length
 same-length c = search needs
 
--- src/lib.rt:209:1
 same-length-2 : tie.Need-same-length-2
 same-length-2 c = search needs
 
--- src/lib.rt:209:1
 same-length-3 : tie.Need-same-length-3
 same-length-3 c = search needs
 
--- src/lib.rt:209:1
 same-length-4 : tie.Need-same-length-4
 same-length-4 c = search needs
 
--- src/lib.rt:209:1
 same-length-5 : tie.Need-same-length-5
 same-length-5 c = search needs
 
--- src/lib.rt:209:1
 same-length-6 : tie.Need-same-length-6
 same-length-6 c = search needs
 
--- src/lib.rt:209:1
 returns : tie.Need-returns
 returns c = search needs
 
--- src/lib.rt:209:1
 same-length-7 : tie.Need-same-length-7
 same-length-7 c = search needs
 
--- src/lib.rt:209:1
 returns-2 : tie.Need-returns-2
-returns-2 c = let s = c .before .before .before .before .before .before .before .before .before .before .before .before .before .before .before .before .before .before .before .before .before .before .before in let a = s .args in let l = s .pre .1 .1 .1 .1 .1 in (home-still (a .c) (a .u) (a .p) (a .q) (a .kind) (a .net) (a .pin) (a .j) (a .a) (a .n) (a .kinds .now) (a .counts .now) (a .firsts .now) (a .src .now) (a .order .now) (a .reach .now) (a .outs .now) (a .goods .now) (a .left .now) (a .best .now) (a .pat .now) _ (s .pre .1 .1 .0) (l .0) (l .1) (l .2) (c .before .before .before .before .home-lanes .ensures) (c .before .any .ensures (c .if1 .left)), s .pre .1 .0 .3)
+returns-2 c =
+    let h = c .before .before .before .before in
+    let s = start h in
+    let l = s .pre .1 .1 .1 .1 .1 in (
+      home-still _ _ _ _ _ _ _ _ _ _ _ _ _ _ _ _ _ _ _ _ _ _ (s .pre .1 .1 .0) (l .0) (l .1) (l .2) (h .home-lanes .ensures) (c .before .any .ensures (c .if1 .left)),
+      s .pre .1 .0 .3,
+    )
 
 pub try-home-spec : {M : Type 1} → statement M
 try-home-spec =

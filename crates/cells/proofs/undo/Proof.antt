@@ -1,3 +1,4 @@
+-- All changed places stand from place 0 on, so restoring from there puts every good word back, and the clears do the rest.
 use native.Mathlib.Omega.{arith}
 use borrow.Author.Needs.{needs}
 use Rattle.cells.proofs.undo.Statement.{statement}

@@ -1,3 +1,4 @@
+-- Each test that is passed rules out one refusal in the order of the reply, and what the clocks show is then the answer.
 use mathlib.Core.Path.{refl, sym}
 use native.Mathlib.Omega.{arith}
 use borrow.Author.Needs.{needs}
@@ -19,7 +20,7 @@ known-requires c κs = search needs
 
 -- what the test of the site says
 told : (c : tie.After-known) → Known (netlistOf (start c .args .opened)) (start c .args .fault) (c .known .result)
-told c = c .known .ensures (netlistOf (start c .args .opened)) refl refl (sym (start c .pre .pins))
+told c = c .known .ensures (netlistOf (start c .args .opened)) refl refl (sym (start c .pre .ready .pins))
 
 site : (c : tie.Else1) → FaultIn (netlistOf (start (c .before) .args .opened)) (start (c .before) .args .fault)
 site c = is-known _ _ (c .before .known .result) (told (c .before)) (c .if1 .left)
@@ -34,15 +35,15 @@ bits c = c .before .first-above-one .ensures .none (omega (arith, c .if3 .left))
 returns : tie.Need-returns
 returns c =
     let k = c .before in
-    prepared (start k .pre .shaped .prepared) (refuses (record { there = refl; holds = is-unknown _ _ (k .known .result) (told k) (c .if1 .taken) }))
+    prepared (start k .pre .ready .shaped .prepared) (refuses (record { there = refl; holds = is-unknown _ _ (k .known .result) (told k) (c .if1 .taken) }))
 
 clock-count-requires : tie.Need-clock-count-requires
-clock-count-requires c κs = start (c .before) .pre .limits .some-input
+clock-count-requires c κs = start (c .before) .pre .ready .limits .some-input
 
 returns-2 : tie.Need-returns-2
 returns-2 c =
     let e = c .before .before in
-    prepared (start (e .before) .pre .shaped .prepared) (goes-on (λ p w. w .holds (site e)) (refuses (record { there = refl; holds = c .before .clock-count .ensures .none (c .if2 .taken) })))
+    prepared (start (e .before) .pre .ready .shaped .prepared) (goes-on (λ p w. w .holds (site e)) (refuses (record { there = refl; holds = c .before .clock-count .ensures .none (c .if2 .taken) })))
 
 first-above-one-requires : tie.Need-first-above-one-requires
 first-above-one-requires c κs = search needs
@@ -51,7 +52,7 @@ returns-3 : tie.Need-returns-3
 returns-3 c =
     let f = c .before .before in
     let e = f .before .before in
-    prepared (start (e .before) .pre .shaped .prepared) (goes-on (λ p w. w .holds (site e)) (goes-on (λ p w. w .holds _ (whole f)) (refuses (c .before .first-above-one .ensures .found (c .if3 .taken)))))
+    prepared (start (e .before) .pre .ready .shaped .prepared) (goes-on (λ p w. w .holds (site e)) (goes-on (λ p w. w .holds _ (whole f)) (refuses (c .before .first-above-one .ensures .found (c .if3 .taken)))))
 
 run-on-requires : tie.Need-run-on-requires
 run-on-requires c κs =
@@ -71,7 +72,7 @@ returns-4 c =
     let g = r .before in
     let f = g .before .before in
     let e = f .before .before in
-    prepared (start (e .before) .pre .shaped .prepared) (goes-on (λ p w. w .holds (site e)) (goes-on (λ p w. w .holds _ (whole f)) (goes-on (not-above (bits g)) (shows (whole f) (rw (c .before .t .given .1) at (r .run-on .ensures))))))
+    prepared (start (e .before) .pre .ready .shaped .prepared) (goes-on (λ p w. w .holds (site e)) (goes-on (λ p w. w .holds _ (whole f)) (goes-on (not-above (bits g)) (shows (whole f) (rw (c .before .t .given .1) at (r .run-on .ensures))))))
 
 returns-5 : tie.Need-returns-5
 returns-5 c =
@@ -79,7 +80,7 @@ returns-5 c =
     let g = r .before in
     let f = g .before .before in
     let e = f .before .before in
-    prepared (start (e .before) .pre .shaped .prepared) (goes-on (λ p w. w .holds (site e)) (goes-on (λ p w. w .holds _ (whole f)) (goes-on (not-above (bits g)) (shows-not (whole f) (rw (c .enum-told .given .1) at (r .run-on .ensures))))))
+    prepared (start (e .before) .pre .ready .shaped .prepared) (goes-on (λ p w. w .holds (site e)) (goes-on (λ p w. w .holds _ (whole f)) (goes-on (not-above (bits g)) (shows-not (whole f) (rw (c .enum-told .given .1) at (r .run-on .ensures))))))
 
 pub check-on-spec : {M : Type 1} → statement M
 check-on-spec =

@@ -1,9 +1,9 @@
+-- Each test that refuses is the one that the reply asks for at its place, and behind all of them the pattern is set as a sweep sets it.
 use Prim.Native.Nat.{_+_, _≤_}
 use native.Mathlib.Nat.{mul-le-mul}
 use native.Mathlib.Omega.{arith}
 use native.Mathlib.Numerals.{add-one}
 use borrow.Author.Needs.{needs}
-use Rattle.sweeps.proofs.Tables.{shaped-even}
 use Rattle.clocks.proofs.Answers.{set-13, set-11, set-14, set-18, set-15, set-done}
 use Rattle.clocks.proofs.set_on.Statement.{statement}
 use Rattle.clocks.proofs.set_on.Tie as tie
@@ -50,8 +50,8 @@ add-long c = search needs
 mul-long : tie.Need-mul-long
 mul-long c =
     let s = start (past-13 (past-11 (past-14 (c .before .before)))) in
-    let h : s .args .t1 .shape .depth + 1 ≤ 256 = omega (arith, s .pre .shaped .shallow) in
-    let l : s .args .t1 .sizes .inputs ≤ 64 = s .pre .limits .few-inputs in
+    let h : s .args .t1 .shape .depth + 1 ≤ 256 = omega (arith, s .pre .ready .shaped .shallow) in
+    let l : s .args .t1 .sizes .inputs ≤ 64 = s .pre .ready .limits .few-inputs in
     omega (arith, mul-le-mul h l)
 
 returns-5 : tie.Need-returns-5
@@ -69,8 +69,8 @@ set-play-requires c κs =
     let f = past-14 g in
     let e = past-11 f in
     let s = start (past-13 e) in (
-      rw (f .if3 .left) (shaped-even (s .pre .limits) (s .pre .pins) (s .pre .shaped) (e .if2 .left)),
-      (omega (arith, past-13 e .if1 .left), g .before .first-above-one .ensures .none (omega (arith, g .if4 .left)), rw (add-one (s .args .t1 .shape .depth)) at (h .if5 .left)),
+      ((_, s .pre .ready), e .if2 .left),
+      (omega (arith, past-13 e .if1 .left), omega (arith, f .if3 .left), g .before .first-above-one .ensures .none (omega (arith, g .if4 .left)), rw (add-one (s .args .t1 .shape .depth)) at (h .if5 .left)),
     )
 
 same-length : tie.Need-same-length

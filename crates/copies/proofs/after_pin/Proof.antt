@@ -1,3 +1,4 @@
+-- A pin that is no branch of x, or whose block is below r, leaves r, and otherwise its block is the last so far.
 use Prim.Native.Nat.{_<_}
 use mathlib.Core.Path.{_≡_, sym, _∙_}
 use native.Mathlib.Omega.{arith}

@@ -1,3 +1,4 @@
+-- r stands behind block `at` and behind the blocks of the branches of x among the first p pins, as each step keeps it.
 use Prim.Native.Nat.{_-_, _≤_}
 use mathlib.Core.Path.{_≡_}
 use native.Mathlib.Omega.{arith}

@@ -1,3 +1,4 @@
+-- The count is the sum of the marks passed, so it is the number that the next place gets.
 use Prim.Native.Nat.{ℕ, _-_, _≤_, _<_}
 use mathlib.Core.Path.{_≡_, refl, ap, _∙_}
 use native.Mathlib.Numerals.{add-one}

@@ -6,11 +6,29 @@ use mathlib.Core.Bool.{Bool, not, cond, _&&_}
 use mathlib.Core.List.{List}
 use lib.Dec.{eqb, leb, ltb}
 use lib.ListN.{length, getD}
-use Rattle.chip.specs.Netlist.{Netlist, bit}
+use Rattle.chip.specs.Netlist.{Netlist, allPins, bit}
+use Rattle.chip.specs.Inner.Limits.{InLimits}
 use Rattle.chip.specs.Pads.{some, branchOf}
-use Rattle.chip.specs.Class.{Lowest, Blocks, blocks}
+use Rattle.chip.specs.Class.{LoopFree, Lowest, Blocks, blocks}
+use Rattle.chip.specs.Inner.Tables.{FirstPins, BranchTable}
 use Rattle.blocks.specs.Labels.{BlockTable}
 use Rattle.chip.specs.Transformed.{onWay, copied, copies, copyAt}
+
+-- pin p is a branch, and the way back to its input can be walked by the first pins
+pub record Way (N : Netlist) (firsts : List ℕ) (p : ℕ) : Type 0 where
+  pub limits : InLimits N
+  pub loop-free : LoopFree N
+  pub first-pins : FirstPins N firsts
+  pub pin : p < allPins N
+  pub input : branchOf N p < N .inputs
+
+-- what the copies in a netlist of n pins are found from
+pub record Ways (N : Netlist) (n : ℕ) (firsts branches : List ℕ) : Type 0 where
+  pub limits : InLimits N
+  pub loop-free : LoopFree N
+  pub first-pins : FirstPins N firsts
+  pub branch-table : BranchTable N branches
+  pub pins : n ≡ allPins N
 
 -- the cells on the way to branch p are marked, from place `base` on, and other marks stay
 pub record WayMarked (N : Netlist) (p base : ℕ) (before after : List ℕ) : Type 0 where

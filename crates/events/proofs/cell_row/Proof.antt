@@ -1,3 +1,4 @@
+-- The kind, first pin and pin count that are read are those of cell j, so the gate's row is what the cell shows.
 use Prim.Native.Nat.{_-_}
 use borrow.Author.Needs.{needs}
 use Rattle.events.proofs.cell_row.Statement.{statement}

@@ -1,3 +1,4 @@
+-- After k words no place that stands in one of them is marked, and 16 words hold the bits of all places.
 use lib.ListN.{length-set}
 use Rattle.events.proofs.Places.{clear-more, clear-all}
 use Rattle.events.specs.Events.{marked}

@@ -1,3 +1,4 @@
+-- After x steps the first x words are the good ones, and those from x on are as they were.
 use Rattle.rows.proofs.Fill.{fill-none, fill-more}
 use Rattle.rows.specs.Rows.{Filled}
 use borrow.Author.Needs.{needs}

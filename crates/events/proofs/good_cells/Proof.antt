@@ -1,3 +1,4 @@
+-- The first p places that reach an output of u obey their rules, and no cell looks at a later one, so a new word spoils none.
 use mathlib.Core.Logic.{⊎-elim}
 use Rattle.events.specs.Events.{Worked}
 use Rattle.events.proofs.Running.{worked-none, worked-skip, worked-more}

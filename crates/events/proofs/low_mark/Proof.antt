@@ -1,3 +1,4 @@
+-- The word shifted right by at % 64 begins with the bit of place at, so its lowest one is the next mark in the word.
 use Rattle.events.proofs.Places.{low-mark}
 use Prim.Native.Nat.{_-_, _/_}
 use native.Mathlib.Omega.{arith}

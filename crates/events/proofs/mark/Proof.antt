@@ -1,3 +1,4 @@
+-- The readers passed that reach an output of u are marked, old marks stay, and a mark that is new is one of theirs.
 use mathlib.Core.Logic.{_⊎_, ⊎-elim}
 use Rattle.events.specs.Events.{Marks}
 use Rattle.events.proofs.Places.{marks-none, marks-skip, marks-more}

@@ -1,3 +1,4 @@
+-- The or with one power of two sets the bit of place p and keeps every other bit of the word.
 use Rattle.events.proofs.Places.{bit-put}
 use Prim.Native.Nat.{_-_}
 use native.Mathlib.Omega.{arith}

@@ -1,3 +1,4 @@
+-- Words differ from the good ones only at changed places from at on, and a jump to the next set bit passes over none of these.
 use Rattle.events.proofs.Running.{Restoring, restore-start, restore-place, restore-step, restore-skip, restore-done}
 use borrow.Author.Needs.{needs}
 use Prim.Native.Nat.{_+_, _-_, _≤_}

@@ -1,3 +1,4 @@
+-- After k steps the first k words of slot s are the good ones, and the words outside it are as before.
 use Rattle.rows.proofs.Fill.{fill-none, fill-more}
 use Rattle.rows.specs.Rows.{Filled}
 use borrow.Author.Needs.{needs}

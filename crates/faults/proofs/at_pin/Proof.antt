@@ -1,3 +1,4 @@
+-- A pin that is not the site passes the line on, and the site shows the constant whatever comes to it.
 use mathlib.Core.Path.{refl}
 use borrow.Author.Tests.{eq-eqb, ne-eqb}
 use borrow.Author.Needs.{needs}

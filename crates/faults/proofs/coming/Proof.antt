@@ -1,3 +1,4 @@
+-- A pin is a branch exactly if its entry is below i, so the code's test is the one of the definition.
 use mathlib.Core.Path.{refl}
 use native.Mathlib.Omega.{arith}
 use borrow.Author.Needs.{needs}

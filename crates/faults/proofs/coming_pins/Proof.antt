@@ -1,3 +1,4 @@
+-- After p pins each has what comes to it, as the entries of its net tell: `seen` for a branch, `own` for any other pin.
 use Prim.Native.Nat.{_+_, _-_, _≤_, _<_}
 use mathlib.Core.Path.{_≡_}
 use mathlib.Core.Bool.{Bool}

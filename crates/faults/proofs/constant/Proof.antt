@@ -1,3 +1,4 @@
+-- The answer is 1 exactly if the value is, and a byte below 2 decides a line whatever it is given.
 use borrow.Author.Tests.{eq-eqb, ne-eqb}
 use Rattle.faults.proofs.constant.Statement.{statement}
 use Rattle.faults.proofs.constant.Tie as tie

@@ -1,3 +1,4 @@
+-- What comes to a pin follows from the nets decided before, and the stuck value at the site's own pin is put on top of it.
 use Prim.Native.Nat.{_<_}
 use mathlib.Core.Path.{refl, ap, _∙_}
 use native.Mathlib.Omega.{arith}

@@ -1,3 +1,4 @@
+-- A net that is decided by itself shows its constant, and any other shows what the pin of the BUF makes of its feed.
 use mathlib.Core.Path.{refl}
 use native.Mathlib.Omega.{arith}
 use borrow.Author.Needs.{needs}

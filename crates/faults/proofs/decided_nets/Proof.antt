@@ -1,3 +1,4 @@
+-- After t places the nets of their cells are settled, and a BUF looks at a net that was settled before it.
 use Prim.Native.Nat.{ℕ, _-_, _≤_, _<_}
 use mathlib.Core.Path.{_≡_, ap, _∙_}
 use mathlib.Core.Logic.{⊎-elim}

@@ -1,3 +1,4 @@
+-- The two branches are the two cases of the definition: f / 2 is below the number of nets, or is a pin behind them.
 use mathlib.Core.Path.{refl, sym}
 use native.Mathlib.Omega.{arith}
 use Rattle.faults.proofs.Numbers.{fault-net, fault-pin}

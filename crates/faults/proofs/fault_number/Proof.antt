@@ -1,3 +1,4 @@
+-- Halving the number gives the site back and its last bit the stuck value, and the limits keep it from overflow.
 use native.Mathlib.Omega.{arith}
 use Rattle.faults.proofs.Numbers.{number-net, number-pin}
 use borrow.Author.Needs.{needs}

@@ -1,3 +1,4 @@
+-- All entries are 2, which leaves every value, so one store at the site is all that a stuck net needs.
 use native.Mathlib.Omega.{arith}
 use borrow.Author.Needs.{needs}
 use Rattle.faults.proofs.Stuck.{nets-put, nets-past, nets-none}

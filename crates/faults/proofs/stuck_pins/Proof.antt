@@ -1,3 +1,4 @@
+-- Only the site's own pin changes what comes to it, so a store there is all, and none is due for a stuck net.
 use native.Mathlib.Omega.{arith}
 use borrow.Author.Needs.{needs}
 use Rattle.faults.proofs.Stuck.{pins-put, pins-past, pins-none}

@@ -1,3 +1,4 @@
+-- After k words all bits of each are set, and at 16 words these are all 1,024 lanes.
 use Rattle.rows.proofs.Fill.{fill-none, fill-more}
 use Rattle.rows.specs.Rows.{Filled}
 use borrow.Author.Needs.{needs}

@@ -1,3 +1,4 @@
+-- If the joined word of the first k is 0, each of them is 0, so the answer false means that all 16 words are 0.
 use Rattle.homes.proofs.Lanes.{any-more}
 use borrow.Author.Needs.{needs}
 use Prim.Native.Nat.{ℕ, _-_, _≤_, _<_}

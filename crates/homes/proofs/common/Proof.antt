@@ -1,3 +1,4 @@
+-- No lane of the first k words is set, so the lowest bit of the first word that is not 0 is the first lane.
 use lib.Bits.{bitAnd, bitXor}
 use lib.Bits.{and-le-l}
 use Rattle.homes.specs.Homes.{laneAt}

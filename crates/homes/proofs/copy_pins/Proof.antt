@@ -1,3 +1,4 @@
+-- After i pins the first i entries are the slots from pin a on, and the others are as before.
 use Rattle.rows.proofs.Fill.{fill-none, fill-more}
 use Rattle.rows.specs.Rows.{Filled}
 use borrow.Author.Needs.{needs}

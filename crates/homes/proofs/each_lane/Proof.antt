@@ -1,3 +1,4 @@
+-- After e faults acc holds the lanes of all open ones among them, since joining keeps lanes and a fault that is not open asks none.
 use mathlib.Core.Logic.{⊎-elim}
 use Rattle.homes.specs.Homes.{HomeLanes}
 use Rattle.homes.proofs.Looking.{number-few, lanes-none, lanes-skip, lanes-join}

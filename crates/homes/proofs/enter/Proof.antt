@@ -1,3 +1,4 @@
+-- Each table gets one store at f, and one_bit(z) - 1 is the word with all bits below z set.
 use lib.ListN.{set}
 use lib.Bits.{bitAnd}
 use lib.Pow.{pow-pos}

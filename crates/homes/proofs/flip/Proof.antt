@@ -1,3 +1,4 @@
+-- After k words these are turned and the others are as before, so word k is still the old one when its turn comes.
 use lib.Bits.{bitXor}
 use Rattle.rows.proofs.Fill.{fill-none, fill-more}
 use Rattle.rows.specs.Rows.{Filled}

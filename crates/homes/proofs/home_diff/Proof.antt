@@ -1,3 +1,4 @@
+-- The home's words under the fault are filled in first, and `xor_slot` turns each by the good word of slot h.
 use lib.Bits.{bitXor}
 use Rattle.homes.proofs.Lanes.{fill-two}
 use borrow.Author.Needs.{needs}

@@ -1,3 +1,4 @@
+-- All lanes hold those of any fault, and otherwise `each_lane` joins the lanes of each open fault.
 use Rattle.homes.proofs.Looking.{lanes-all}
 use Prim.Native.Nat.{_+_, _*_}
 use borrow.Author.Needs.{needs}

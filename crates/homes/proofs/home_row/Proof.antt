@@ -1,3 +1,4 @@
+-- A stuck net shows the constant's slot, and a stuck pin is pin e / 2 - 1 that looks at that slot.
 use Rattle.homes.proofs.Lanes.{home-net, home-pin}
 use native.Mathlib.Omega.{arith}
 use borrow.Author.Needs.{needs}

@@ -1,3 +1,4 @@
+-- After k words these are joined with those of t, and word k of acc is still the old one when its turn comes.
 use lib.Bits.{bitOr}
 use Rattle.rows.proofs.Fill.{fill-none, fill-more}
 use Rattle.rows.specs.Rows.{Filled}

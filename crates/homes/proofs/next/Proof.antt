@@ -1,3 +1,4 @@
+-- The lowest bit of u shifted down by `at`, counted from `at` on, is the lowest bit of u there.
 use Rattle.homes.proofs.Lanes.{next-bit}
 use native.Mathlib.Omega.{arith}
 use borrow.Author.Needs.{needs}

@@ -1,3 +1,4 @@
+-- The test e < 2 is that of the definition, so each branch computes its side of it.
 use borrow.Author.Tests.{lt-ltb, le-ltb}
 use mathlib.Core.Path.{refl}
 use native.Mathlib.Omega.{arith}

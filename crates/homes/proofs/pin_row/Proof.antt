@@ -1,3 +1,4 @@
+-- The copied pins with pin q replaced are the slots of the changed cell, and `gate` works out its words from them.
 use Rattle.homes.proofs.Lanes.{pins-but}
 use Rattle.homes.proofs.Lanes.{pin-words}
 use mathlib.Core.Path.{refl}

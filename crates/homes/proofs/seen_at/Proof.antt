@@ -1,3 +1,4 @@
+-- Each output of u below `at` is in the word or shows no difference, and `next` passes over outputs that are not in u.
 use mathlib.Core.Logic.{⊎-elim}
 use Rattle.homes.proofs.Lanes.{SeenBelow, seen-start, seen-same, seen-new, seen-done, same-row}
 use borrow.Author.Needs.{needs}

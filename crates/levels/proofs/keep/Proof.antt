@@ -1,3 +1,4 @@
+-- After n nets each of them has its word in the copy, since the store for a net leaves those of the nets before.
 use borrow.Author.Needs.{needs}
 use mathlib.Core.Path.{_≡_, _∙_}
 use Prim.Native.Nat.{ℕ, _-_, _≤_, _<_}

@@ -1,3 +1,4 @@
+-- The place at + 1 + x is within the buffer and the place from + x within the play for each x below i.
 use Prim.Native.Nat.{_-_, _≤_}
 use borrow.Author.Needs.{needs}
 use Rattle.lines.proofs.clock.Statement.{statement}

@@ -1,3 +1,4 @@
+-- There is room for the clocks that are left in the buffer and in the play, and each clock takes i + 1 and i bytes of it.
 use Prim.Native.Nat.{ℕ, suc, _+_, _*_, _-_, _≤_, _<_}
 use mathlib.Core.Path.{_≡_, ap, _∙_}
 use native.Mathlib.Nat.{suc-mul, mul-le-mul}

@@ -1,3 +1,4 @@
+-- `used` is set to 0 before the bytes are written, and a length within the buffer gives a slice of it.
 use mathlib.Core.Path.{sym}
 use lib.Seq.{length-take-le}
 use native.Mathlib.Omega.{arith}

@@ -1,3 +1,4 @@
+-- `blank` leaves `used` within the buffer, each `word` does so too, and i stays below the length of the words.
 use Prim.Native.Nat.{_-_, _≤_}
 use borrow.Author.Needs.{needs}
 use Rattle.lines.proofs.hex_words.Statement.{statement}

@@ -1,3 +1,4 @@
+-- `room` puts `used` within the buffer even if no byte comes, and each `put` leaves it there.
 use Prim.Native.Nat.{_-_, _≤_}
 use borrow.Author.Needs.{needs}
 use Rattle.lines.proofs.run.Statement.{statement}

@@ -1,3 +1,4 @@
+-- The chip is open and of class 2 or 3, so each fault has its answer, and its play fits the buffer.
 use Prim.Native.Nat.{_+_, _*_, _-_, _≤_}
 use mathlib.Core.Path.{_≡_, refl}
 use native.Mathlib.Omega.{arith}
@@ -19,16 +20,16 @@ survey-requires : tie.Need-survey-requires Inv-loop μ-loop
 survey-requires c κs = let p = c .before .before .before .before .before .before .pre in (p .0, p .1)
 
 add-all : tie.Need-add-all Inv-loop μ-loop
-add-all c = let o = c .before .before .before .before .before .before .before .before .pre .0 in omega (arith, o .limits .few-inputs, o .limits .few-cells)
+add-all c = let o = c .before .before .before .before .before .before .before .before .pre .0 .ready in omega (arith, o .limits .few-inputs, o .limits .few-cells)
 
 add-all-2 : tie.Need-add-all-2 Inv-loop μ-loop
 add-all-2 c =
-    let o = c .before .before .before .before .before .before .before .before .before .pre .0 in
+    let o = c .before .before .before .before .before .before .before .before .before .pre .0 .ready in
     omega (arith, o .pins, o .limits .few-inputs, o .limits .few-cells, o .limits .few-pins)
 
 mul-all : tie.Need-mul-all Inv-loop μ-loop
 mul-all c =
-    let o = c .before .before .before .before .before .before .before .before .before .pre .0 in
+    let o = c .before .before .before .before .before .before .before .before .before .pre .0 .ready in
     omega (arith, o .pins, o .limits .few-inputs, o .limits .few-cells, o .limits .few-pins)
 
 loop-holds : tie.Need-loop-holds Inv-loop μ-loop
@@ -37,33 +38,30 @@ loop-holds c = (omega arith, refl, refl)
 add-fault-at : tie.Need-add-fault-at Inv-loop μ-loop
 add-fault-at c =
     let v = c .before .before .before .before .before in
-    let o = v .before .before .before .before .before .before .before .pre .0 in
+    let o = v .before .before .before .before .before .before .before .pre .0 .ready in
     omega (arith, o .limits .few-inputs, o .limits .few-cells)
 
 fault-at-requires : tie.Need-fault-at-requires Inv-loop μ-loop
 fault-at-requires c κs = search needs
 
-name-requires : tie.Need-name-requires Inv-loop μ-loop
-name-requires c κs = search needs
-
 search-listed-requires : tie.Need-search-listed-requires Inv-loop μ-loop
 search-listed-requires c κs =
-    let i = c .before .before .before .before .before .before .before .before .before .before .before .before in
+    let i = c .before .before .before .before .before .before .before .before .before in
     let S = i .before .before .before .before .survey .ensures in
     (_, _, _, _, S .looked _ (omega (arith, i .loop-test .taken, i .before .loop .inv .1)), S .places)
 
-answer-requires : tie.Need-answer-requires Inv-loop μ-loop
-answer-requires c κs =
+entry-requires : tie.Need-entry-requires Inv-loop μ-loop
+entry-requires c κs =
     let r = c .before .before .before .before .before in
-    let i = r .before .before .before .before .before .before .before .before .before .before .before .before .before in
+    let i = r .before .before .before .before .before .before .before .before .before .before in
     let p = i .before .before .before .before .before .before .before .before .before .before .before .pre in
-    (p .0 .limits .few-inputs, p .0 .shaped .shallow, omega (arith, p .2, i .before .loop .inv .2))
+    (p .0 .ready .limits .few-inputs, p .0 .ready .shaped .shallow, omega (arith, p .2, i .before .loop .inv .2))
 
 add-k : tie.Need-add-k Inv-loop μ-loop
 add-k c =
     let r = c .before .before .before .before .before .before in
-    let i = r .before .before .before .before .before .before .before .before .before .before .before .before .before in
-    let o = i .before .before .before .before .before .before .before .before .before .before .before .pre .0 in
+    let i = r .before .before .before .before .before .before .before .before .before .before in
+    let o = i .before .before .before .before .before .before .before .before .before .before .before .pre .0 .ready in
     let l = i .before .loop in
     omega (arith, l .inv .0, l .inv .1, o .pins, o .limits .few-inputs, o .limits .few-cells, o .limits .few-pins)
 
@@ -93,9 +91,8 @@ list-spec =
     loop-holds
     add-fault-at
     fault-at-requires
-    name-requires
     search-listed-requires
-    answer-requires
+    entry-requires
     add-k
     loop-less
     loop-again

@@ -1,3 +1,4 @@
+-- Behind the two refusals the chip is open and not of class 1, which is what the listing asks.
 use borrow.Author.Needs.{needs}
 use Rattle.opening.proofs.Answers.{is-open}
 use Rattle.listing.proofs.list_file.Statement.{statement}

@@ -1,3 +1,4 @@
+-- After each pin its net is an input or on the list, and a cell without a place on the list leaves room for one more.
 use Prim.Native.Nat.{_+_, _-_, _≤_, _<_}
 use mathlib.Core.Path.{_≡_}
 use native.Mathlib.Omega.{arith}

@@ -1,3 +1,4 @@
+-- No net of a cell from `from` up to j reaches itself, and none below does, so the first that does is the lowest.
 use Prim.Native.Nat.{ℕ, _-_, _≤_}
 use mathlib.Core.List.{List}
 use native.Mathlib.Omega.{arith}

@@ -1,3 +1,4 @@
+-- All cells on the list feed the cell's net, and once the pins of each are followed, all that feed it are on the list.
 use Prim.Native.Nat.{_-_, _<_}
 use mathlib.Core.Path.{refl}
 use native.Mathlib.Omega.{arith}

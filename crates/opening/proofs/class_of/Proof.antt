@@ -1,3 +1,4 @@
+-- A file that is refused passes its refusal on, and one that opens has the reply of the call on the open chip.
 use borrow.Author.Needs.{needs}
 use Rattle.chip.specs.Refusals.{unopened, opened}
 use Rattle.opening.proofs.Answers.{is-refused, is-open}

@@ -1,3 +1,4 @@
+-- An open chip holds its class and depth as prepared, and the number in its shape is that of its blocks.
 use Rattle.opening.proofs.Answers.{class-is-on}
 use Rattle.opening.proofs.class_on.Statement.{statement}
 use Rattle.opening.proofs.class_on.Tie as tie

@@ -1,3 +1,4 @@
+-- Each return is one way that a file opens: not read, looped, too deep, or prepared with all of its tables.
 use borrow.Author.Needs.{needs}
 use lib.ListN.{getD-replicate}
 use Rattle.netlist.proofs.Use.{holds}
@@ -61,7 +62,7 @@ returns-4 c =
     let k = p .before .before .before .before .before .before .before .before .before .before .before .before in
     let h = holds _ _ _ (k .before .before .before .read .ensures) (k .before .reading2 .given .1) in
     let S = found-chip _ _ _ _ _ _ _ (p .prepare .ensures) _ (c .before .s .given .1) in
-    record { answer = (opens-chip _ _ _ h _ _ _ (S .prepared) (S .shallow), record { limits = tables-limits _ _ _ h; pins = tables-pins _ _ _ h; shaped = S }) }
+    record { answer = (opens-chip _ _ _ h _ _ _ (S .prepared) (S .shallow), record { ready = record { limits = tables-limits _ _ _ h; pins = tables-pins _ _ _ h; shaped = S } }) }
 
 pub open-spec : {M : Type 1} → statement M
 open-spec =

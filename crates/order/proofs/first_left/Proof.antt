@@ -1,3 +1,4 @@
+-- All cells below j have a place, so the first one without a place is the lowest.
 use Prim.Native.Nat.{ℕ, _-_, _≤_, _<_}
 use native.Mathlib.Omega.{arith}
 use lib.ListN.{getD}

@@ -1,3 +1,4 @@
+-- The inputs and the first k cells of the order have their sources, and what feeds the next cell is one of these.
 use Prim.Native.Nat.{ℕ, _+_, _-_, _≤_, _<_}
 use mathlib.Core.Path.{_≡_, ap, _∙_}
 use native.Mathlib.Omega.{arith}

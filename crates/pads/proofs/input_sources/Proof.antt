@@ -1,3 +1,4 @@
+-- After x steps the first x entries are their own numbers, and a step writes x at entry x.
 use Prim.Native.Nat.{ℕ, _-_, _≤_, _<_}
 use mathlib.Core.Path.{_≡_, refl}
 use native.Mathlib.Omega.{arith}

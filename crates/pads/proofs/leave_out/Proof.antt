@@ -1,3 +1,4 @@
+-- After j cells the first pins of the pad buffers among them have no input's number, and every other pin its net's source.
 use Prim.Native.Nat.{_+_, _-_, _≤_, _<_}
 use mathlib.Core.Path.{_≡_, _∙_}
 use mathlib.Core.Logic.{⊎-elim}

@@ -1,3 +1,4 @@
+-- After p pins each has the source of the net that it names, read from a table that has the source of every net.
 use Prim.Native.Nat.{ℕ, _+_, _-_, _≤_, _<_}
 use mathlib.Core.Path.{_≡_, ap, _∙_}
 use native.Mathlib.Omega.{arith}

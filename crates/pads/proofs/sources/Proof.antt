@@ -1,3 +1,4 @@
+-- Once each input is its own source, the cells in their order complete the table of all nets.
 use borrow.Author.Needs.{needs}
 use Rattle.pads.proofs.sources.Statement.{statement}
 use Rattle.pads.proofs.sources.Tie as tie

@@ -1,3 +1,4 @@
+-- After k words of the slot each has bit i of the pattern numbers of its 64 lanes, as `pattern_word` answers them.
 use Rattle.patterns.specs.Variables.{Variable}
 use Rattle.patterns.proofs.Setting.{word-none, word-more}
 use borrow.Author.Needs.{needs}

@@ -1,3 +1,4 @@
+-- After i variables each has its 16 words, and no later call changes them, since a call stores only in its own slot.
 use Rattle.patterns.specs.Variables.{Variables}
 use Rattle.patterns.proofs.Setting.{slots-none, slots-more}
 use borrow.Author.Needs.{needs}

@@ -1,3 +1,4 @@
+-- After k pins the word has all bits left to the net and to these pins, since `|` loses none.
 use borrow.Author.Needs.{needs}
 use Prim.Native.Nat.{_-_, _≤_}
 use mathlib.Core.Path.{_≡_, refl}

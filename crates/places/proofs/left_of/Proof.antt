@@ -1,3 +1,4 @@
+-- `left_at` covers the sites of cell j, and j is what the order has at place p.
 use borrow.Author.Needs.{needs}
 use mathlib.Core.Path.{ap, _∙_}
 use native.Mathlib.Omega.{arith}

@@ -1,3 +1,4 @@
+-- The cell at a place of the order is a home, with its net, its first pin and its pin count from the tables.
 use borrow.Author.Needs.{needs}
 use mathlib.Core.Path.{ap, _∙_}
 use native.Mathlib.Omega.{arith}
@@ -5,6 +6,13 @@ use lib.ListN.{getD}
 use Rattle.places.proofs.Places.{home-of}
 use Rattle.places.proofs.try_cell.Statement.{statement}
 use Rattle.places.proofs.try_cell.Tie as tie
+
+-- each step back is named after where it leads: to the start, and to the cell read
+abbrev start : tie.After-wide → tie.Start
+start c = c .before .before .before .before .before .before .before .before .before .before .before .before .before .before .before .before .before .before
+
+abbrev cell : tie.After-wide8 → tie.After-wide
+cell c = c .before .before .before .before
 
 mul-wide : tie.Need-mul-wide
 mul-wide c = search needs
@@ -16,34 +24,69 @@ wide-requires : tie.Need-wide-requires
 wide-requires c κs = search needs
 
 mul-wide-2 : tie.Need-mul-wide-2
-mul-wide-2 c = omega (arith, c .wide .ensures, c .before .before .before .before .before .before .before .before .before .before .before .before .before .before .before .before .before .before .pre .0 .cell (c .before .before .before .before .before .before .before .before .before .before .before .before .before .before .before .before .before .before .args .p) (c .before .before .before .before .before .before .before .before .before .before .before .before .before .before .before .before .before .before .pre .1 .1 .0 .0))
+mul-wide-2 c = let s = start c in omega (arith, c .wide .ensures, s .pre .0 .cell (s .args .p) (s .pre .1 .1 .0 .0))
 
 shared-slice-read-wide-2 : tie.Need-shared-slice-read-wide-2
-shared-slice-read-wide-2 c = omega (arith, c .before .wide .ensures, c .before .before .before .before .before .before .before .before .before .before .before .before .before .before .before .before .before .before .before .pre .0 .first (c .before .before .before .before .before .before .before .before .before .before .before .before .before .before .before .before .before .before .before .args .p) (c .before .before .before .before .before .before .before .before .before .before .before .before .before .before .before .before .before .before .before .pre .1 .1 .0 .0))
+shared-slice-read-wide-2 c = let s = start (c .before) in omega (arith, c .before .wide .ensures, s .pre .0 .first (s .args .p) (s .pre .1 .1 .0 .0))
 
 wide-requires-2 : tie.Need-wide-requires-2
 wide-requires-2 c κs = search needs
 
 shared-slice-read-wide8 : tie.Need-shared-slice-read-wide8
-shared-slice-read-wide8 c = omega (arith, c .before .before .before .wide .ensures, c .before .before .before .before .before .before .before .before .before .before .before .before .before .before .before .before .before .before .before .before .before .pre .0 .count (c .before .before .before .before .before .before .before .before .before .before .before .before .before .before .before .before .before .before .before .before .before .args .p) (c .before .before .before .before .before .before .before .before .before .before .before .before .before .before .before .before .before .before .before .before .before .pre .1 .1 .0 .0))
+shared-slice-read-wide8 c = let s = start (c .before .before .before) in omega (arith, c .before .before .before .wide .ensures, s .pre .0 .count (s .args .p) (s .pre .1 .1 .0 .0))
 
 wide8-requires : tie.Need-wide8-requires
 wide8-requires c κs = search needs
 
 shared-slice-read-try-home : tie.Need-shared-slice-read-try-home
-shared-slice-read-try-home c = omega (arith, c .before .before .before .before .before .wide .ensures, c .before .before .before .before .before .before .before .before .before .before .before .before .before .before .before .before .before .before .before .before .before .before .before .pre .0 .kind (c .before .before .before .before .before .before .before .before .before .before .before .before .before .before .before .before .before .before .before .before .before .before .before .args .p) (c .before .before .before .before .before .before .before .before .before .before .before .before .before .before .before .before .before .before .before .before .before .before .before .pre .1 .1 .0 .0))
+shared-slice-read-try-home c = let s = start (cell (c .before)) in omega (arith, cell (c .before) .wide .ensures, s .pre .0 .kind (s .args .p) (s .pre .1 .1 .0 .0))
 
 add-try-home : tie.Need-add-try-home
-add-try-home c = omega (arith, c .before .before .before .before .before .wide .ensures, c .before .before .before .before .before .before .before .before .before .before .before .before .before .before .before .before .before .before .before .before .before .before .before .pre .0 .cell (c .before .before .before .before .before .before .before .before .before .before .before .before .before .before .before .before .before .before .before .before .before .before .before .args .p) (c .before .before .before .before .before .before .before .before .before .before .before .before .before .before .before .before .before .before .before .before .before .before .before .pre .1 .1 .0 .0), c .before .before .before .before .before .before .before .before .before .before .before .before .before .before .before .before .before .before .before .before .before .before .before .pre .1 .0 .few-inputs)
+add-try-home c = let s = start (cell (c .before)) in omega (arith, cell (c .before) .wide .ensures, s .pre .0 .cell (s .args .p) (s .pre .1 .1 .0 .0), s .pre .1 .0 .few-inputs)
 
 add-try-home-2 : tie.Need-add-try-home-2
 add-try-home-2 c = search needs
 
 add-try-home-3 : tie.Need-add-try-home-3
-add-try-home-3 c = omega (arith, (c .before .before .before .wide2 .ensures ∙ ap (λ x. getD (c .before .before .before .before .before .before .before .before .before .before .before .before .before .before .before .before .before .before .before .before .before .before .before .args .firsts .now) x 0) (c .before .before .before .before .before .wide .ensures)), c .before .before .before .before .before .before .before .before .before .before .before .before .before .before .before .before .before .before .before .before .before .before .before .pre .0 .pins (c .before .before .before .before .before .before .before .before .before .before .before .before .before .before .before .before .before .before .before .before .before .before .before .args .p) (c .before .before .before .before .before .before .before .before .before .before .before .before .before .before .before .before .before .before .before .before .before .before .before .pre .1 .1 .0 .0) .pins, c .before .before .before .before .before .before .before .before .before .before .before .before .before .before .before .before .before .before .before .before .before .before .before .pre .1 .0 .pins-long, c .before .before .before .before .before .before .before .before .before .before .before .before .before .before .before .before .before .before .before .before .before .before .before .pre .1 .0 .few-inputs, c .before .before .before .before .before .before .before .before .before .before .before .before .before .before .before .before .before .before .before .before .before .before .before .pre .0 .few)
+add-try-home-3 c =
+    let s = start (cell (c .before)) in
+    let H = s .pre .0 in
+    let A = s .pre .1 .0 in
+    let f = c .before .before .before .wide2 .ensures ∙ ap (λ x. getD (s .args .firsts .now) x 0) (cell (c .before) .wide .ensures) in
+    omega (arith, f, H .pins (s .args .p) (s .pre .1 .1 .0 .0) .pins, A .pins-long, A .few-inputs, H .few)
 
+-- a rewrite does not see through a named step, so the steps here are written out: k is where the pins are known, j where the cell is, and s the start
 try-home-requires : tie.Need-try-home-requires
-try-home-requires c κs = let w = c .before .before .before .before .before .before .before .before .before .before .before .wide .ensures in let f = (c .before .before .before .before .before .before .before .before .before .wide2 .ensures ∙ ap (λ x. getD (c .before .before .before .before .before .before .before .before .before .before .before .before .before .before .before .before .before .before .before .before .before .before .before .before .before .before .before .before .before .args .firsts .now) x 0) (c .before .before .before .before .before .before .before .before .before .before .before .wide .ensures)) in let n = (c .before .before .before .before .before .before .before .wide8 .ensures ∙ ap (λ x. getD (c .before .before .before .before .before .before .before .before .before .before .before .before .before .before .before .before .before .before .before .before .before .before .before .before .before .before .before .before .before .args .counts .now) x 0) (c .before .before .before .before .before .before .before .before .before .before .before .wide .ensures)) in let H = c .before .before .before .before .before .before .before .before .before .before .before .before .before .before .before .before .before .before .before .before .before .before .before .before .before .before .before .before .before .pre .0 in let l = c .before .before .before .before .before .before .before .before .before .before .before .before .before .before .before .before .before .before .before .before .before .before .before .before .before .before .before .before .before .pre .1 .1 .0 .0 in (c .before .before .before .before .before .before .before .before .before .before .before .before .before .before .before .before .before .before .before .before .before .before .before .before .before .before .before .before .before .pre .0, ((c .before .before .before .before .before .before .before .before .before .before .before .before .before .before .before .before .before .before .before .before .before .before .before .before .before .before .before .before .before .pre .1 .1 .0 .0, w, c .before .before .before .before .before .before .before .before .before .before .before .before .before .before .before .before .before .before .before .before .before .before .before .before .before .before .before .before .before .pre .1 .1 .0 .1, c .before .before .before .before .before .before .before .before .before .before .before .before .before .before .before .before .before .before .before .before .before .before .before .before .before .before .before .before .before .pre .1 .1 .0 .2), (c .before .before .before .before .before .before .before .before .before .before .before .before .before .before .before .before .before .before .before .before .before .before .before .before .before .before .before .before .before .pre .1 .1 .1 .0, (c .before .before .before .before .before .before .before .before .before .before .before .before .before .before .before .before .before .before .before .before .before .before .before .before .before .before .before .before .before .pre .1 .1 .1 .1 .0, ((omega (arith, w, c .before .before .before .before .before .before .before .before .before .before .before .before .before .before .before .before .before .before .before .before .before .before .before .before .before .before .before .before .before .pre .1 .0 .cell (c .before .before .before .before .before .before .before .before .before .before .before .before .before .before .before .before .before .before .before .before .before .before .before .before .before .before .before .before .before .args .p) l), omega (arith, f, n, H .pins (c .before .before .before .before .before .before .before .before .before .before .before .before .before .before .before .before .before .before .before .before .before .before .before .before .before .before .before .before .before .args .p) l .pins, c .before .before .before .before .before .before .before .before .before .before .before .before .before .before .before .before .before .before .before .before .before .before .before .before .before .before .before .before .before .pre .1 .0 .pins-long, c .before .before .before .before .before .before .before .before .before .before .before .before .before .before .before .before .before .before .before .before .before .before .before .before .before .before .before .before .before .pre .1 .0 .few-inputs, H .few), rw (f, n, w) (home-of _ _ _ _ _ _ _ _ _ _ H l)), (c .before .before .before .before .before .before .before .before .before .before .before .before .before .before .before .before .before .before .before .before .before .before .before .before .before .before .before .before .before .pre .1 .1 .1 .1 .1 .long-left, c .before .before .before .before .before .before .before .before .before .before .before .before .before .before .before .before .before .before .before .before .before .before .before .before .before .before .before .before .before .pre .1 .1 .1 .1 .1 .long-best, c .before .before .before .before .before .before .before .before .before .before .before .before .before .before .before .before .before .before .before .before .before .before .before .before .before .before .before .before .before .pre .1 .1 .1 .1 .1 .long-pat))))))
+try-home-requires c κs =
+    let k = c .before .before .before .before .before .before .before in
+    let j = k .before .before .before .before in
+    let s = j .before .before .before .before .before .before .before .before .before .before .before .before .before .before .before .before .before .before in
+    let w = j .wide .ensures in
+    let f = k .before .before .wide2 .ensures ∙ ap (λ x. getD (s .args .firsts .now) x 0) w in
+    let n = k .wide8 .ensures ∙ ap (λ x. getD (s .args .counts .now) x 0) w in
+    let H = s .pre .0 in
+    let A = s .pre .1 .0 in
+    let (l, long, back) = s .pre .1 .1 .0 in
+    let L = s .pre .1 .1 .1 .1 .1 in (
+      H,
+      (
+        (l, w, long, back),
+        (
+          s .pre .1 .1 .1 .0,
+          (
+            s .pre .1 .1 .1 .1 .0,
+            (
+              (
+                omega (arith, w, A .cell (s .args .p) l),
+                omega (arith, f, n, H .pins (s .args .p) l .pins, A .pins-long, A .few-inputs, H .few),
+                rw (f, n, w) (home-of _ _ _ _ _ _ _ _ _ _ H l),
+              ),
+              (L .long-left, L .long-best, L .long-pat),
+            ),
+          ),
+        ),
+      ),
+    )
 
 same-length : tie.Need-same-length
 same-length c = search needs
@@ -63,8 +106,18 @@ same-length-5 c = search needs
 same-length-6 : tie.Need-same-length-6
 same-length-6 c = search needs
 
+-- a rewrite does not see through a named step, so the steps here are written out: h is where the home was tried, and the others are as above
 returns : tie.Need-returns
-returns c = let w = c .before .before .before .before .before .before .before .before .before .before .before .before .before .before .before .before .before .before .before .before .before .before .before .before .wide .ensures in let f = (c .before .before .before .before .before .before .before .before .before .before .before .before .before .before .before .before .before .before .before .before .before .before .wide2 .ensures ∙ ap (λ x. getD (c .before .before .before .before .before .before .before .before .before .before .before .before .before .before .before .before .before .before .before .before .before .before .before .before .before .before .before .before .before .before .before .before .before .before .before .before .before .before .before .before .before .before .args .firsts .now) x 0) (c .before .before .before .before .before .before .before .before .before .before .before .before .before .before .before .before .before .before .before .before .before .before .before .before .wide .ensures)) in let n = (c .before .before .before .before .before .before .before .before .before .before .before .before .before .before .before .before .before .before .before .before .wide8 .ensures ∙ ap (λ x. getD (c .before .before .before .before .before .before .before .before .before .before .before .before .before .before .before .before .before .before .before .before .before .before .before .before .before .before .before .before .before .before .before .before .before .before .before .before .before .before .before .before .before .before .args .counts .now) x 0) (c .before .before .before .before .before .before .before .before .before .before .before .before .before .before .before .before .before .before .before .before .before .before .before .before .wide .ensures)) in let t = c .before .before .before .before .before .before .before .before .before .before .before .before .try-home .ensures in (rw (f, n, w) at (t .0), t .1)
+returns c =
+    let h = c .before .before .before .before .before .before .before .before .before .before .before .before in
+    let k = h .before .before .before .before .before .before .before .before in
+    let j = k .before .before .before .before in
+    let s = j .before .before .before .before .before .before .before .before .before .before .before .before .before .before .before .before .before .before in
+    let w = j .wide .ensures in
+    let f = k .before .before .wide2 .ensures ∙ ap (λ x. getD (s .args .firsts .now) x 0) w in
+    let n = k .wide8 .ensures ∙ ap (λ x. getD (s .args .counts .now) x 0) w in
+    let t = h .try-home .ensures in
+    (rw (f, n, w) at (t .0), t .1)
 
 pub try-cell-spec : {M : Type 1} → statement M
 try-cell-spec =

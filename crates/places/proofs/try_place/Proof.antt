@@ -1,3 +1,4 @@
+-- A place with no open output in g stays as it is, and a place that is tried gets the word that covers its faults anew.
 use borrow.Author.Needs.{needs}
 use mathlib.Core.Path.{refl}
 use native.Mathlib.Omega.{arith}
@@ -6,6 +7,16 @@ use Rattle.places.proofs.Places.{place-idle, place-open}
 use Rattle.places.proofs.try_place.Statement.{statement}
 use Rattle.places.proofs.try_place.Tie as tie
 
+-- each step back is named after where it leads: to the start, to the open output found, and to the cell tried
+abbrev start : tie.Then1 → tie.Start
+start c = c .before .before .before .before .before .before .before .before .before .before .before .before .before .before .before .before .before .before .before
+
+abbrev opened : tie.After-try-cell → tie.Then1
+opened c = c .before .before .before .before .before .before .before
+
+abbrev tried : tie.After-left-of → tie.After-try-cell
+tried c = c .before .before .before .before .before .before .before .before .before .before .before .before .before .before
+
 mul-u : tie.Need-mul-u
 mul-u c = search needs
 
@@ -13,16 +24,37 @@ slice-read-u : tie.Need-slice-read-u
 slice-read-u c = search needs
 
 try-cell-requires : tie.Need-try-cell-requires
-try-cell-requires c κs = let s = c .before .before .before .before .before .before .before .before .before .before .before .before .before .before .before .before .before .before .before .before .before .before .before .before .before in let R = s .pre .1 .1 .1 .0 in (s .pre .0, (s .pre .1 .0, ((s .pre .1 .1 .0 .0, R .words, s .pre .1 .1 .0 .1), (R .good (getD (s .args .groups .now) (s .args .p) 0), ((R .chunk, R .outs-long, R .outs-low), s .pre .1 .1 .1 .1 .0)))))
+try-cell-requires c κs =
+    let s = start (c .before .before .before .before .before .before) in
+    let R = s .pre .1 .1 .1 .0 in (
+      s .pre .0,
+      (
+        s .pre .1 .0,
+        (
+          (s .pre .1 .1 .0 .0, R .words, s .pre .1 .1 .0 .1),
+          (R .good (getD (s .args .groups .now) (s .args .p) 0), ((R .chunk, R .outs-long, R .outs-low), s .pre .1 .1 .1 .1 .0)),
+        ),
+      ),
+    )
 
 left-of-requires : tie.Need-left-of-requires
-left-of-requires c κs = let s = c .before .before .before .before .before .before .before .before .before .before .before .before .before .before .before .before .before .before .before .before .before .before .before .before .before .before .before .before .before .before .before .before .before .before .before .before .before .before .before in let H = s .pre .0 in let l = s .pre .1 .1 .0 .0 in (s .pre .1 .0, ((l, H .few, omega (arith, H .listed, l), H .count (s .args .p) l, H .first (s .args .p) l), (omega (arith, H .pins (s .args .p) l .pins, s .pre .1 .0 .pins-long), c .before .before .before .before .before .before .before .before .before .before .before .before .before .try-cell .ensures .0 .looked .long-left)))
+left-of-requires c κs =
+    let t = c .before .before .before .before .before .before .before .before .before .before .before .before .before in
+    let s = start (opened t) in
+    let H = s .pre .0 in
+    let l = s .pre .1 .1 .0 .0 in (
+      s .pre .1 .0,
+      (
+        (l, H .few, omega (arith, H .listed, l), H .count (s .args .p) l, H .first (s .args .p) l),
+        (omega (arith, H .pins (s .args .p) l .pins, s .pre .1 .0 .pins-long), t .try-cell .ensures .0 .looked .long-left),
+      ),
+    )
 
 mul-groups : tie.Need-mul-groups
-mul-groups c = let s = c .before .before .before .before .before .before .before .before .before .before .before .before .before .before .before .before .before .before .before .before .before .before .before .before .before .before .before .before .before .before .before .before .before .before .before .before .before .before .before .before in omega (arith, s .pre .0 .few, s .pre .1 .1 .0 .0)
+mul-groups c = let s = start (opened (tried c)) in omega (arith, s .pre .0 .few, s .pre .1 .1 .0 .0)
 
 slice-write-groups : tie.Need-slice-write-groups
-slice-write-groups c = let s = c .before .before .before .before .before .before .before .before .before .before .before .before .before .before .before .before .before .before .before .before .before .before .before .before .before .before .before .before .before .before .before .before .before .before .before .before .before .before .before .before in omega (arith, s .pre .0 .few, s .pre .1 .1 .0 .0, s .pre .1 .1 .1 .1 .1)
+slice-write-groups c = let s = start (opened (tried c)) in omega (arith, s .pre .0 .few, s .pre .1 .1 .0 .0, s .pre .1 .1 .1 .1 .1)
 
 same-length : tie.Need-same-length
 same-length c = search needs
@@ -46,10 +78,20 @@ same-length-7 : tie.Need-same-length-7
 same-length-7 c = search needs
 
 returns : tie.Need-returns
-returns c = let s = c .before .before .before .before .before .before .before .before .before .before .before .before .before .before .before .before .before .before .before .before .before .before .before .before .before .before .before .before .before .before .before .before .before .before .before .before .before .before .before .before in let t = c .before .before .before .before .before .before .before .before .before .before .before .before .before .before .try-cell .ensures in (place-open _ _ _ _ _ _ _ _ _ _ _ _ _ _ _ _ _ _ _ _ _ _ _ _ (s .pre .0) (s .pre .1 .0) (s .pre .1 .1 .1 .0) (s .pre .1 .1 .0 .0) (omega (arith, s .pre .0 .few, s .pre .1 .1 .0 .0)) (s .pre .1 .1 .1 .1 .1) (c .before .before .before .before .before .before .before .before .before .before .before .before .before .before .before .before .before .before .before .before .before .if1 .taken) (t .0) (c .left-of .ensures) refl, t .1)
+returns c =
+    let t = tried c in
+    let s = start (opened t) in
+    let l = s .pre .1 .1 .0 .0 in
+    let T = t .try-cell .ensures in (
+      place-open _ _ _ _ _ _ _ _ _ _ _ _ _ _ _ _ _ _ _ _ _ _ _ _ (s .pre .0) (s .pre .1 .0) (s .pre .1 .1 .1 .0) l (omega (arith, s .pre .0 .few, l))
+          (s .pre .1 .1 .1 .1 .1) (opened t .if1 .taken) (T .0) (c .left-of .ensures) refl,
+      T .1,
+    )
 
 returns-2 : tie.Need-returns-2
-returns-2 c = let s = c .before .before .before .before .before .before .before .before .before .before .before .before .before .before .before .before .before .before .before in (place-idle _ _ _ _ _ _ _ _ _ _ _ _ _ _ _ _ _ (s .pre .1 .1 .1 .1 .0) (s .pre .1 .1 .1 .1 .1) (c .if1 .left), s .pre .1 .1 .0 .1)
+returns-2 c =
+    let s = c .before .before .before .before .before .before .before .before .before .before .before .before .before .before .before .before .before .before .before in
+    (place-idle _ _ _ _ _ _ _ _ _ _ _ _ _ _ _ _ _ (s .pre .1 .1 .1 .1 .0) (s .pre .1 .1 .1 .1 .1) (c .if1 .left), s .pre .1 .1 .0 .1)
 
 pub try-place-spec : {M : Type 1} → statement M
 try-place-spec =

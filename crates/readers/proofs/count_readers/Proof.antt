@@ -1,3 +1,4 @@
+-- After p pins the entry of each head is the number of those pins that have it, since a pin adds one at its own head.
 use borrow.Author.Needs.{needs}
 use Prim.Native.Nat.{_-_, _≤_}
 use mathlib.Core.Path.{_≡_, refl}

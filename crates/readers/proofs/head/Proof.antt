@@ -1,3 +1,4 @@
+-- A branch has its block and any other pin 4160 and its cell, and a net of an input gives 4160, as net - i is then 0.
 use borrow.Author.Needs.{needs}
 use Prim.Native.Nat.{_+_, _-_}
 use mathlib.Core.Path.{_≡_, sym, ap, _∙_}

@@ -1,3 +1,4 @@
+-- After x steps the first x pins from a on belong to place p, and no other entry of the table changed.
 use borrow.Author.Needs.{needs}
 use Prim.Native.Nat.{_-_, _≤_}
 use mathlib.Core.Path.{_≡_, refl}

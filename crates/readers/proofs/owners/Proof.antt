@@ -1,3 +1,4 @@
+-- After t places the pins of their cells have them, and no later place writes over these, since no two cells share a pin.
 use borrow.Author.Needs.{needs}
 use Prim.Native.Nat.{_-_, _≤_}
 use mathlib.Core.Path.{_≡_, refl, ap, _∙_}

@@ -1,3 +1,4 @@
+-- The pins from k on have their entries, and each head stands behind the pins below k that share it, so pin k - 1 goes just before.
 use borrow.Author.Needs.{needs}
 use Prim.Native.Nat.{_-_, _≤_}
 use mathlib.Core.Path.{_≡_, refl, sym, _∙_}

@@ -1,3 +1,4 @@
+-- After t places each has the outputs of the first pin of its cell, since each step reads that pin's word and writes its place.
 use borrow.Author.Needs.{needs}
 use Prim.Native.Nat.{_-_, _≤_}
 use mathlib.Core.Path.{_≡_, refl, ap, _∙_}

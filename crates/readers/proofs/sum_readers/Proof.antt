@@ -1,3 +1,4 @@
+-- After s heads the running sum is the number of pins with a lower head, so each head passed has where its readers end.
 use borrow.Author.Needs.{needs}
 use Prim.Native.Nat.{_-_, _≤_}
 use mathlib.Core.Path.{_≡_, refl}

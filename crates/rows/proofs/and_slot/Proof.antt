@@ -1,11 +1,12 @@
-use lib.Bits.{bitAnd}
-use Rattle.rows.proofs.Fill.{fill-none, fill-more}
-use Rattle.rows.specs.Rows.{Filled}
-use borrow.Author.Needs.{needs}
+-- The first k words are joined by and with those of the slot, and word k is as it came until its step.
 use Prim.Native.Nat.{_+_, _-_, _*_, _≤_}
-use mathlib.Core.Path.{_≡_, ap}
+use mathlib.Core.Path.{_≡_}
 use native.Mathlib.Omega.{arith}
+use borrow.Author.Needs.{needs}
+use lib.Bits.{bitAnd}
 use lib.ListN.{getD}
+use Rattle.rows.specs.Rows.{Filled}
+use Rattle.rows.proofs.Fill.{fill-none, slot-more}
 use Rattle.rows.proofs.and_slot.Statement.{statement}
 use Rattle.rows.proofs.and_slot.Tie as tie
 
@@ -15,59 +16,45 @@ Inv-loop vals s acc₀ k₀ acc k = (k ≤ 16) × Filled 0 k (λ k. bitAnd (getD
 abbrev μ-loop : tie.MeasureT-loop
 μ-loop vals s acc₀ k₀ acc k = 16 - k
 
--- src/lib.rt:37:5
 loop-holds : tie.Need-loop-holds Inv-loop μ-loop
 loop-holds c = (omega arith, fill-none _ _ _)
 
--- src/lib.rt:38:18
 mul-acc : tie.Need-mul-acc Inv-loop μ-loop
 mul-acc c = search needs
 
--- src/lib.rt:38:18
 slice-read-acc : tie.Need-slice-read-acc Inv-loop μ-loop
 slice-read-acc c = search needs
 
--- src/lib.rt:38:32
 mul-acc-2 : tie.Need-mul-acc-2 Inv-loop μ-loop
 mul-acc-2 c = search needs
 
--- src/lib.rt:38:32
 add-acc : tie.Need-add-acc Inv-loop μ-loop
 add-acc c = search needs
 
--- src/lib.rt:38:27
 mul-acc-3 : tie.Need-mul-acc-3 Inv-loop μ-loop
 mul-acc-3 c = search needs
 
--- src/lib.rt:38:27
 shared-slice-read-acc : tie.Need-shared-slice-read-acc Inv-loop μ-loop
 shared-slice-read-acc c = search needs
 
--- src/lib.rt:38:9
 mul-acc-4 : tie.Need-mul-acc-4 Inv-loop μ-loop
 mul-acc-4 c = search needs
 
--- src/lib.rt:38:9
 slice-write-acc : tie.Need-slice-write-acc Inv-loop μ-loop
 slice-write-acc c = search needs
 
--- src/lib.rt:37:9
 add-k : tie.Need-add-k Inv-loop μ-loop
 add-k c = search needs
 
--- src/lib.rt:37:5
 loop-less : tie.Need-loop-less Inv-loop μ-loop
 loop-less c = search needs
 
--- src/lib.rt:37:5
 loop-again : tie.Need-loop-again Inv-loop μ-loop
-loop-again c = let l = c .before .before .before .loop in let a = c .before .before .before .before .args in (omega arith, fill-more _ (l .k) _ _ _ _ _ (l .inv .1) (omega arith) (omega (arith, c .before .before .before .before .pre)) (ap (λ y. bitAnd y (getD (a .vals .now) (16 * a .s + l .k) 0)) (l .inv .1 .above (l .k) (omega arith))))
+loop-again c = let s = c .before .before .before .before in let l = c .before .before .before .loop in (omega arith, slot-more bitAnd (s .args .vals .now) (s .args .s) (l .k) (l .inv .1) (omega (arith, s .pre)))
 
--- src/lib.rt:33:1
 same-length : tie.Need-same-length Inv-loop μ-loop
 same-length c = search needs
 
--- src/lib.rt:33:1
 returns : tie.Need-returns Inv-loop μ-loop
 returns c = let e : c .before .loop .k ≡ 16 = omega arith in rw e at (c .before .loop .inv .1)
 

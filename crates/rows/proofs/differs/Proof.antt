@@ -1,3 +1,4 @@
+-- While x is 0 the words passed are those of the slot, and x is 0 exactly if its upper bits and its lowest bit are.
 use borrow.Author.Tests.{ne-eqb}
 use Rattle.rows.proofs.Fill.{same-more}
 use borrow.Author.Needs.{needs}

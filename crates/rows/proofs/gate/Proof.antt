@@ -1,3 +1,4 @@
+-- Each arm names the join and the turn of its kind, a kind with one pin reads the first, and kinds above 9 are shut out.
 use Prim.Native.Nat.{ℕ, suc, _+_, _-_, _*_, _≤_, zero-le}
 use mathlib.Core.Path.{_≡_, ap, _∙_}
 use native.Mathlib.Omega.{arith}

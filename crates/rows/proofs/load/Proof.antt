@@ -1,3 +1,4 @@
+-- After k steps the first k words are those of slot s, and after 16 the whole slot is read.
 use Rattle.rows.proofs.Fill.{fill-none, fill-more}
 use Rattle.rows.specs.Rows.{Filled}
 use borrow.Author.Needs.{needs}

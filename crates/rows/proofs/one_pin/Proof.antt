@@ -1,3 +1,4 @@
+-- After k steps the first k words are those of the slot with the bits of m turned, one read and one write each.
 use lib.Bits.{bitXor}
 use Rattle.rows.proofs.Fill.{fill-none, fill-more}
 use Rattle.rows.specs.Rows.{Filled}

@@ -1,3 +1,4 @@
+-- After k steps the first k words have the bits of m turned, since each is written once from its own word.
 use lib.Bits.{bitXor}
 use Rattle.rows.proofs.Fill.{fill-none, fill-more}
 use Rattle.rows.specs.Rows.{Filled}

@@ -1,9 +1,9 @@
+-- An open chip is all that `judge` asks, and the fault is the one that it looked for.
 use Prim.Native.Nat.{ℕ}
 use native.Mathlib.Omega.{arith}
 use lib.ListN.{length-replicate, getD-replicate}
 use borrow.Author.Needs.{needs}
 use Rattle.chip.proofs.Basics.{zero-at}
-use Rattle.search.proofs.Answering.{open-ready}
 use Rattle.search.proofs.answer_alone.Statement.{statement}
 use Rattle.search.proofs.answer_alone.Tie as tie
 
@@ -11,7 +11,7 @@ abbrev start : tie.After-pat → tie.Start
 start c = c .before .before .before .before .before .before .before .before .before .before .before .before .before .before .before
 
 add-judge : tie.Need-add-judge
-add-judge c = let s = c .before .before in omega (arith, s .pre .1 .1, s .pre .0 .0 .pins, s .pre .0 .0 .limits .few-inputs, s .pre .0 .0 .limits .few-cells, s .pre .0 .0 .limits .few-pins)
+add-judge c = let s = c .before .before in omega (arith, s .pre .1 .1, s .pre .0 .ready .pins, s .pre .0 .ready .limits .few-inputs, s .pre .0 .ready .limits .few-cells, s .pre .0 .ready .limits .few-pins)
 
 slice-aggregate-judge : tie.Need-slice-aggregate-judge
 slice-aggregate-judge c = search needs
@@ -28,7 +28,7 @@ slice-aggregate-judge-4 c = search needs
 judge-requires : tie.Need-judge-requires
 judge-requires c κs =
     let p = start c .pre in (
-      open-ready _ (p .0 .0) _ (p .0 .1),
+      p .0 .ready,
       (
         (omega arith, omega (arith, p .1 .1)),
         ((p .1 .0, length-replicate {A = ℕ} 5184 0, (λ x. zero-at 5184 x), length-replicate {A = ℕ} 64 0), (length-replicate {A = ℕ} 10368 64, (λ x h. getD-replicate 10368 x 64 0 h), length-replicate {A = ℕ} 10368 0)),
@@ -40,7 +40,7 @@ answer-judged-requires c κs =
     let j = c .before .before .before .before .before .before .before .before in
     let s = start (j .before) in
     let p = s .pre in
-    (_, _, _, _, record { firsts = _; order = _; branches = _; block = _; cone = s .args .cone .now; ready = open-ready _ (p .0 .0) _ (p .0 .1); even = p .1 .0; judged = j .judge .ensures _ (omega arith) (omega arith) })
+    (_, _, _, _, record { firsts = _; order = _; branches = _; block = _; ready = p .0 .ready; even = p .1 .0; judged = j .judge .ensures _ (omega arith) (omega arith) })
 
 returns : tie.Need-returns
 returns c =
@@ -48,7 +48,7 @@ returns c =
     let s = start (j .before) in
     let p = s .pre in
     c .answer-judged .ensures _ _ _ _
-    (record { firsts = _; order = _; branches = _; block = _; cone = s .args .cone .now; ready = open-ready _ (p .0 .0) _ (p .0 .1); even = p .1 .0; judged = j .judge .ensures _ (omega arith) (omega arith) })
+    (record { firsts = _; order = _; branches = _; block = _; ready = p .0 .ready; even = p .1 .0; judged = j .judge .ensures _ (omega arith) (omega arith) })
 
 pub answer-alone-spec : {M : Type 1} → statement M
 answer-alone-spec =

@@ -1,10 +1,11 @@
+-- What was looked for tells whether an output is wide, and the verdict's walk, where the play has room, is the search's answer.
 use mathlib.Core.Path.{refl}
-use Prim.Native.Nat.{_+_, _*_, _/_, _≤_, _<_}
+use Prim.Native.Nat.{_+_, _/_, _≤_, _<_}
 use native.Mathlib.Omega.{arith}
 use native.Mathlib.Nat.{mul-le-mul}
 use native.Mathlib.Numerals.{add-one}
 use borrow.Author.Needs.{needs}
-use Rattle.chip.specs.Inner.Tables.{tabled}
+use Rattle.chip.specs.Inner.Tables.{sized}
 use Rattle.faults.specs.Numbers.{faultNumber}
 use Rattle.faults.proofs.Numbers.{fault-in}
 use Rattle.search.proofs.Answering.{walkable, reply-16, reply-15, answer-refused, answer-found, answer-none}
@@ -40,9 +41,9 @@ returns c kinds counts nets reached L =
     let a = w .before .before .args in
     let R = L .ready in
     let J = L .judged in
-    let K = fault-in (tabled (a .z .inputs) (a .z .cells) (a .z .outputs) kinds counts nets) (a .f) (omega (arith, J .a-fault, R .pins)) in
+    let K = fault-in (sized (a .z) kinds counts nets) (a .f) (omega (arith, J .a-fault, R .pins)) in
     let M = J .sites-are .at (a .f / 2) (omega (arith, J .a-fault, R .pins)) in
-    answer-refused _ _ _ _ _ _ _ (λ entry _. reply-16 _ _ _ _ _ _ _ _ _ R (L .even) _ _ M K _ entry (w .first-wide .ensures _ _ _ (J .widths-are) (J .wides-are)) (c .if1 .taken))
+    answer-refused _ _ _ _ _ _ _ (λ entry _. reply-16 R (L .even) _ _ M K _ entry (w .first-wide .ensures _ _ _ (J .widths-are) (J .wides-are)) (c .if1 .taken))
 
 add-long : tie.Need-add-long
 add-long c = search needs
@@ -61,11 +62,11 @@ returns-2 c kinds counts nets reached L =
     let a = w .before .before .args in
     let R = L .ready in
     let J = L .judged in
-    let K = fault-in (tabled (a .z .inputs) (a .z .cells) (a .z .outputs) kinds counts nets) (a .f) (omega (arith, J .a-fault, R .pins)) in
+    let K = fault-in (sized (a .z) kinds counts nets) (a .f) (omega (arith, J .a-fault, R .pins)) in
     let M = J .sites-are .at (a .f / 2) (omega (arith, J .a-fault, R .pins)) in
     let t = w .first-wide .ensures _ _ _ (J .widths-are) (J .wides-are) in
-    let W = walkable _ _ _ _ _ _ _ _ _ R (L .even) (faultNumber (a .z .inputs + a .z .cells) (a .f)) _ M _ t (omega (arith, e .if1 .left)) in
-    answer-refused _ _ _ _ _ _ _ (λ entry l. reply-15 _ _ _ _ _ _ _ _ _ R (L .even) _ _ M K entry W (rw l (c .if2 .taken)))
+    let W = walkable R (L .even) (faultNumber (a .z .inputs + a .z .cells) (a .f)) _ M _ t (omega (arith, e .if1 .left)) in
+    answer-refused _ _ _ _ _ _ _ (λ entry l. reply-15 R (L .even) _ _ M K entry W (rw l (c .if2 .taken)))
 
 element-copy-out-wide8 : tie.Need-element-copy-out-wide8
 element-copy-out-wide8 c = omega (arith, few (wide-found (past-16 c) .before .before))
@@ -93,7 +94,7 @@ verdict-requires c κs =
     let J = L .judged in
     let M = J .sites-are .at (a .f / 2) (omega (arith, J .a-fault, R .pins)) in
     let t = w .first-wide .ensures _ _ _ (J .widths-are) (J .wides-are) in
-    let W = walkable _ _ _ _ _ _ _ _ _ R (L .even) (faultNumber (a .z .inputs + a .z .cells) (a .f)) _ M _ t (omega (arith, e .if1 .left)) in
+    let W = walkable R (L .even) (faultNumber (a .z .inputs + a .z .cells) (a .f)) _ M _ t (omega (arith, e .if1 .left)) in
     ((R .limits .few-outputs, c .number .ensures .1), (_, _, J .widths-are, W .narrow))
 
 enum-known-k : tie.Need-enum-known-k
@@ -113,15 +114,15 @@ returns-3 c kinds counts nets reached L =
     let a = w .before .before .args in
     let R = L .ready in
     let J = L .judged in
-    let N = tabled (a .z .inputs) (a .z .cells) (a .z .outputs) kinds counts nets in
+    let N = sized (a .z) kinds counts nets in
     let K = fault-in N (a .f) (omega (arith, J .a-fault, R .pins)) in
     let M = J .sites-are .at (a .f / 2) (omega (arith, J .a-fault, R .pins)) in
     let t = w .first-wide .ensures _ _ _ (J .widths-are) (J .wides-are) in
-    let W = walkable _ _ _ _ _ _ _ _ _ R (L .even) (faultNumber (a .z .inputs + a .z .cells) (a .f)) _ M _ t (omega (arith, e .if1 .left)) in
+    let W = walkable R (L .even) (faultNumber (a .z .inputs + a .z .cells) (a .f)) _ M _ t (omega (arith, e .if1 .left)) in
     let low = R .shaped .low in
     let (left, S) = J .found low (R .shaped .prepared .lowest) (narrow-word _ _ _ _ _ _ _ (omega arith) (J .widths-are) (J .wides-are) t (omega (arith, e .if1 .left))) in
     let r = v .verdict .ensures N (a .s .blocks) reached low (faultNumber (a .z .inputs + a .z .cells) (a .f)) left refl (R .shaped .count) (J .widths-are) (rw (b .wide8 .ensures, n .number .ensures .0) S) in
-    answer-none _ _ _ _ _ _ _ _ _ R (L .even) _ _ M K W _ (rw add-one at (f .if2 .left)) _ r _ (c .before .k .given .1)
+    answer-none R (L .even) _ _ M K W _ (rw add-one at (f .if2 .left)) _ r _ (c .before .k .given .1)
 
 returns-4 : tie.Need-returns-4
 returns-4 c kinds counts nets reached L =
@@ -134,15 +135,15 @@ returns-4 c kinds counts nets reached L =
     let a = w .before .before .args in
     let R = L .ready in
     let J = L .judged in
-    let N = tabled (a .z .inputs) (a .z .cells) (a .z .outputs) kinds counts nets in
+    let N = sized (a .z) kinds counts nets in
     let K = fault-in N (a .f) (omega (arith, J .a-fault, R .pins)) in
     let M = J .sites-are .at (a .f / 2) (omega (arith, J .a-fault, R .pins)) in
     let t = w .first-wide .ensures _ _ _ (J .widths-are) (J .wides-are) in
-    let W = walkable _ _ _ _ _ _ _ _ _ R (L .even) (faultNumber (a .z .inputs + a .z .cells) (a .f)) _ M _ t (omega (arith, e .if1 .left)) in
+    let W = walkable R (L .even) (faultNumber (a .z .inputs + a .z .cells) (a .f)) _ M _ t (omega (arith, e .if1 .left)) in
     let low = R .shaped .low in
     let (left, S) = J .found low (R .shaped .prepared .lowest) (narrow-word _ _ _ _ _ _ _ (omega arith) (J .widths-are) (J .wides-are) t (omega (arith, e .if1 .left))) in
     let r = v .verdict .ensures N (a .s .blocks) reached low (faultNumber (a .z .inputs + a .z .cells) (a .f)) left refl (R .shaped .count) (J .widths-are) (rw (b .wide8 .ensures, n .number .ensures .0) S) in
-    answer-found _ _ _ _ _ _ _ _ _ R (L .even) _ _ M K W _ (rw add-one at (f .if2 .left)) _ r _ _ _ (c .before .z .given .1)
+    answer-found R (L .even) _ _ M K W _ (rw add-one at (f .if2 .left)) _ r _ _ _ (c .before .z .given .1)
 
 pub answer-judged-spec : {M : Type 1} → statement M
 answer-judged-spec =

@@ -1,5 +1,8 @@
+-- The answer leaves a found pattern to be set, and its output's row in the table has the places of the blocks that it is set on.
 use mathlib.Core.Path.{refl}
+use native.Mathlib.Omega.{arith}
 use borrow.Author.Needs.{needs}
+use Rattle.spots.proofs.Playing.{drivers, blocks-less, blocks-row, blocks-played}
 use Rattle.search.proofs.Answering.{playable, replies-refused, replies-none, replies-found}
 use Rattle.search.proofs.search_listed.Statement.{statement}
 use Rattle.search.proofs.search_listed.Tie as tie
@@ -21,7 +24,9 @@ play-spots-requires c κs =
     let a = c .before .before .before .before in
     let p = a .before .before .pre in
     let S = a .answer-judged .ensures _ _ _ _ (p .4) .found _ _ _ (c .before .before .y .given .1) in
-    ((_, _, refl, playable _ _ _ _ _ _ _ _ _ (p .4 .ready) _ _ _ _ (p .5) S), S .fits)
+    let R = p .4 .ready in
+    let P = playable R _ _ _ _ (p .5 .row _ (S .output)) S in
+    ((R .shaped .shallow, omega (arith, S .output, R .limits .few-outputs), (drivers P, blocks-row P, blocks-less P)), S .fits)
 
 returns : tie.Need-returns
 returns c kinds counts nets reached L T = replies-refused _ _ _ _ _ _ (c .before .before .before .answer-judged .ensures _ _ _ _ L) _ refl _ _ (c .before .k .given .1)
@@ -38,8 +43,9 @@ returns-3 c kinds counts nets reached L T =
     let t = q .before .before in
     let A = t .before .before .before .answer-judged .ensures _ _ _ _ L in
     let S = A .found _ _ _ (t .before .y .given .1) in
+    let P = playable (L .ready) _ _ _ _ (T .row _ (S .output)) S in
     replies-found _ _ _ _ _ _ A _ refl _ _ _ _ (t .before .y .given .1)
-    (λ low M. q .play-spots .ensures _ _ low refl (playable _ _ _ _ _ _ _ _ _ (L .ready) _ _ _ _ T S) M)
+    (blocks-played P _ _ (S .fits) (q .play-spots .ensures (drivers P) (blocks-row P) (blocks-less P)))
 
 pub search-listed-spec : {M : Type 1} → statement M
 search-listed-spec =

@@ -5,17 +5,18 @@ use mathlib.Core.Logic.{_≢_}
 use mathlib.Core.List.{List}
 use lib.ListN.{length}
 use Rattle.chip.specs.Netlist.{Netlist}
-use Rattle.chip.specs.Inner.Tables.{tabled}
+use Rattle.chip.specs.Inner.Tables.{sized}
 use Rattle.chip.specs.Class.{Lowest, blocks}
 use Rattle.chip.specs.Replies.{SearchOn}
 use Rattle.chip.specs.declared.Fault.{Fault}
 use Rattle.chip.specs.declared.Searched.{Searched}
 use Rattle.chip.specs.declared.Searched.the-variants.{Found, Untestable, Refused}
-use Rattle.netlist.specs.declared.Sizes.{Sizes}
+use Rattle.chip.specs.declared.Sizes.{Sizes}
+use Rattle.structure.specs.Inner.Shape.{Ready}
 use Rattle.structure.specs.declared.Shape.{Shape}
 use Rattle.opening.specs.Open.{netlistOf}
 use Rattle.opening.specs.declared.Chip.{Chip}
-use Rattle.walk.specs.Walk.{Ready, widthOf, Played}
+use Rattle.walk.specs.Walk.{widthOf, Played}
 use Rattle.verdicts.specs.Verdicts.{Judged}
 use Rattle.spots.specs.Spots.{Spots}
 use Rattle.search.specs.declared.Findings.{Findings}
@@ -45,8 +46,7 @@ pub record Looked (z : Sizes) (s : Shape) (f wides : ℕ) (sites widths best pat
   pub order : List ℕ
   pub branches : List ℕ
   pub block : List ℕ
-  pub cone : List ℕ
-  pub ready : Ready (tabled (z .inputs) (z .cells) (z .outputs) kinds counts nets) (z .pins) s firsts order branches block reached cone
+  pub ready : Ready (sized z kinds counts nets) (z .pins) s firsts order branches block reached
   pub even : s .class ≢ 1
   pub judged : Judged (z .inputs) (z .cells) (z .outputs) (z .pins) (s .blocks) f wides kinds counts nets reached sites widths best pat
 

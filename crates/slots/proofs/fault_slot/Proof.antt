@@ -1,3 +1,4 @@
+-- Below 2 the byte is added to 1040, the slot of the zeros, and otherwise the good slot stays, as `faultSlot` says.
 use mathlib.Core.Path.{refl}
 use native.Mathlib.Omega.{arith}
 use borrow.Author.Tests.{lt-ltb, le-ltb}

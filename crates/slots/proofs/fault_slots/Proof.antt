@@ -1,3 +1,4 @@
+-- After p pins each has the constant's slot or its good one, and the store for a pin leaves the pins before it.
 use Prim.Native.Nat.{_-_, _≤_}
 use mathlib.Core.Path.{_≡_}
 use native.Mathlib.Omega.{arith}

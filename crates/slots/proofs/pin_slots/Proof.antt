@@ -1,3 +1,4 @@
+-- After p pins each has the slot that `slot` answers for it, from its branch, its net and its block.
 use borrow.Author.Needs.{needs}
 use Rattle.slots.proofs.pin_slots.Statement.{statement}
 use Rattle.slots.proofs.pin_slots.Tie as tie

@@ -1,3 +1,4 @@
+-- The three returns are the three cases of `slotOf`: a branch, another pin that names an input, a pin that names a cell.
 use borrow.Author.Needs.{needs}
 use Rattle.slots.proofs.slot.Statement.{statement}
 use Rattle.slots.proofs.slot.Tie as tie

@@ -1,3 +1,4 @@
+-- After k blocks w counts those that reach output z, so the next of them gets slot w, and any other block slot 1040.
 use borrow.Author.Needs.{needs}
 use Rattle.slots.proofs.variables.Statement.{statement}
 use Rattle.slots.proofs.variables.Tie as tie

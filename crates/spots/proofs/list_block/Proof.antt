@@ -1,3 +1,4 @@
+-- Number w below 16 has one entry of its own in the row, and for a greater one nothing is marked.
 use native.Mathlib.Omega.{arith}
 use borrow.Author.Needs.{needs}
 use Rattle.spots.proofs.Changing.{block-put, block-not}

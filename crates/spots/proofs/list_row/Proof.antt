@@ -1,3 +1,4 @@
+-- w counts the blocks below k that reach the output, so block k, if it does, has number w.
 use Prim.Native.Nat.{_-_, _≤_}
 use mathlib.Core.Path.{_≡_, refl, sym, _∙_}
 use mathlib.Core.Logic.{⊎-elim}

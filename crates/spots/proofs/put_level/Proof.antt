@@ -1,3 +1,4 @@
+-- After p pins each branch among them has its place in the rows of the outputs of its word that are in outs, and no other entry has changed.
 use Prim.Native.Nat.{_-_, _≤_}
 use mathlib.Core.Path.{_≡_, refl}
 use mathlib.Core.Logic.{⊎-elim}
@@ -9,13 +10,13 @@ use Rattle.spots.proofs.put_level.Statement.{statement}
 use Rattle.spots.proofs.put_level.Tie as tie
 
 abbrev Inv-loop : tie.InvT-loop
-Inv-loop i o n from branches block words lists spots₀ p₀ spots p = (p ≤ n) × Changed (LevelMark i o p from branches block words lists) spots₀ spots
+Inv-loop z from outs branches block words lists spots₀ i n p₀ spots p = (p ≤ n) × Changed (LevelMark (z .inputs) (z .outputs) p from outs branches block words lists) spots₀ spots
 
 abbrev μ-loop : tie.MeasureT-loop
-μ-loop i o n from branches block words lists spots₀ p₀ spots p = n - p
+μ-loop z from outs branches block words lists spots₀ i n p₀ spots p = n - p
 
 loop-holds : tie.Need-loop-holds Inv-loop μ-loop
-loop-holds c = (omega arith, level-start _ _ _ _ _ _ _ _)
+loop-holds c = (omega arith, level-start _ _ _ _ _ _ _ _ _)
 
 mul-wide : tie.Need-mul-wide Inv-loop μ-loop
 mul-wide c = search needs
@@ -61,8 +62,8 @@ loop-again c =
     let l = c .before .before .before .before .loop in
     ⊎-elim
     (λ w.
-    (omega arith, rw (w .8) (level-yes _ _ _ _ _ _ _ (l .p) _ _ _ _ _ _ (omega (arith, c .before .wide .ensures, w .0 .taken)) refl (w .3 .ensures) (omega (arith, c .before .wide .ensures)) (w .5 .ensures) (l .inv .1))))
-    (λ w. (omega arith, rw (w .1) (level-no _ _ _ _ _ _ _ (l .p) _ _ (omega (arith, c .before .wide .ensures, w .0 .left)) (l .inv .1))))
+    (omega arith, rw (w .8) (level-yes _ _ _ _ _ _ _ _ (l .p) _ _ _ _ _ _ (omega (arith, c .before .wide .ensures, w .0 .taken)) refl (w .3 .ensures) (omega (arith, c .before .wide .ensures)) (w .5 .ensures) (l .inv .1))))
+    (λ w. (omega arith, rw (w .1) (level-no _ _ _ _ _ _ _ _ (l .p) _ _ (omega (arith, c .before .wide .ensures, w .0 .left)) (l .inv .1))))
     (c .if1 .came)
 
 same-length : tie.Need-same-length Inv-loop μ-loop
@@ -71,7 +72,7 @@ same-length c = c .before .loop .inv .1 .long
 returns : tie.Need-returns Inv-loop μ-loop
 returns c =
     let l = c .before .loop in
-    let q : l .p ≡ c .before .before .before .args .n = omega arith in
+    let q : l .p ≡ c .before .before .before .args .z .pins = omega arith in
     rw q at (l .inv .1)
 
 pub put-level-spec : {M : Type 1} → statement M

@@ -1,3 +1,4 @@
+-- After k bits a one stands at the place of each that is set, and no other place has changed.
 use Prim.Native.Nat.{_-_, _≤_}
 use mathlib.Core.Path.{_≡_, sym, _∙_}
 use mathlib.Core.Logic.{⊎-elim}

@@ -1,3 +1,4 @@
+-- The outputs below z that are in the word have the place, and a word without bits marks none.
 use Prim.Native.Nat.{_-_, _≤_}
 use mathlib.Core.Path.{_≡_, sym, _∙_}
 use mathlib.Core.Logic.{⊎-elim}

@@ -1,3 +1,4 @@
+-- Of the first k entries of the row, those whose listed block is s hold the place, and the others are as they were.
 use Prim.Native.Nat.{_-_, _≤_}
 use mathlib.Core.Path.{_≡_, sym, _∙_}
 use mathlib.Core.Logic.{⊎-elim}

@@ -1,6 +1,6 @@
+-- `structure::join_inputs` keeps its contract: where no input's net reaches an output no branch does, and there is nothing to join.
 use borrow.Author.Needs.{needs}
 use native.Mathlib.Omega.{arith}
-use Rattle.chip.specs.Inner.Tables.{tabled}
 use Rattle.order.proofs.Order.{ranked-of}
 use Rattle.balance.proofs.Inputs.{no-branch}
 use Rattle.structure.proofs.Joining.{joined-none}
@@ -11,21 +11,15 @@ any-net-requires : tie.Need-any-net-requires
 any-net-requires c κs = search needs
 
 returns : tie.Need-returns
-returns c =
-    let s = c .before .before in
-    let a = s .args in
-    let P = s .pre in
-    let N = tabled (a .i) (a .c) (a .o) (a .kinds .now) (a .counts .now) (a .nets .now) in
-    let m = c .before .any-net .ensures N (a .e) (omega arith) (P .1 .1 .1 .0 .nets) in
-    joined-none N (a .e) _ (no-branch N (P .0 .sound) (ranked-of (P .1 .1 .0)) (a .e) (rw (c .if1 .taken) at m)) (P .1 .1 .1 .1 .0)
+returns c = λ N e order L O o B M K.
+    let m = c .before .any-net .ensures N e (omega (arith, B .inputs)) (M .nets) in
+    joined-none N e _ (no-branch N (L .sound) (ranked-of O) e (rw (c .if1 .taken, ← B .inputs) at m)) K
 
 join-level-requires : tie.Need-join-level-requires
-join-level-requires c κs =
-    let P = c .before .before .before .pre in
-    (P .0, (P .1 .0, (P .1 .1 .1 .0 .pins, (P .1 .1 .1 .1 .0, P .1 .1 .1 .1 .1))))
+join-level-requires c κs = search needs
 
 returns-2 : tie.Need-returns-2
-returns-2 c = c .join-level .ensures
+returns-2 c = λ N e order L O o B M K. c .join-level .ensures N e L o B (M .pins) K
 
 pub join-inputs-spec : {M : Type 1} → statement M
 join-inputs-spec = tie.close (tie.spec any-net-requires returns join-level-requires returns-2)

@@ -1,8 +1,24 @@
+-- `structure::prepare` keeps its contract: with its first pins, its order and its branches the netlist is ready for the steps behind, and without an order it has the loop that is named.
 use borrow.Author.Needs.{needs}
-use Rattle.order.proofs.Order.{wired, order-free}
-use Rattle.structure.proofs.Preparing.{settled-loop, settled-done, depth-over, depth-of, blocks-few, blocks-one, shaped}
+use mathlib.Core.Path.{refl}
+use Rattle.chip.specs.Netlist.{Netlist}
+use Rattle.chip.specs.Inner.Tables.{sized, FirstPins}
+use Rattle.order.specs.Settled.{Settled}
+use Rattle.order.proofs.Order.{wired}
+use Rattle.structure.proofs.Preparing.{settled-loop, settled-done}
 use Rattle.structure.proofs.prepare.Statement.{statement}
 use Rattle.structure.proofs.prepare.Tie as tie
+
+-- the netlist that the tables hold
+abbrev chip : tie.Start → Netlist
+chip s = sized (s .args .z) (s .args .kinds .now) (s .args .counts .now) (s .args .nets .now)
+
+-- its first pins, and what was found of its order
+firsts-found : (f : tie.After-first-pins) → FirstPins (chip (f .before .before)) (f .first-pins .last .1 .1 .0)
+firsts-found f = let a = f .before .before .args in f .first-pins .ensures (a .z .inputs) (a .z .outputs) (a .kinds .now) (a .nets .now)
+
+settled : (o : tie.After-order-cells) → Settled (chip (o .before .before .before .before .before)) (o .order-cells .last .1 .1 .1 .1 .0) (o .order-cells .result)
+settled o = let a = o .before .before .before .before .before .args in o .order-cells .ensures (a .z .outputs) (a .kinds .now) (a .counts .now) (firsts-found (o .before .before .before))
 
 first-pins-requires : tie.Need-first-pins-requires
 first-pins-requires c κs = search needs
@@ -10,118 +26,46 @@ first-pins-requires c κs = search needs
 order-cells-requires : tie.Need-order-cells-requires
 order-cells-requires c κs =
     let s = c .before .before .before .before in
-    let a = s .args in
-    wired (a .i) (a .c) (a .o) (a .kinds .now) (a .counts .now) _ (a .nets .now) (c .before .before .first-pins .ensures (a .i) (a .o) (a .kinds .now) (a .nets .now)) (s .pre .0)
+    wired _ _ (s .args .z .outputs) (s .args .kinds .now) (s .args .counts .now) _ _ (firsts-found (c .before .before)) (s .pre .0)
 
 enum-known-j : tie.Need-enum-known-j
 enum-known-j c = search needs
 
 lowest-on-loop-requires : tie.Need-lowest-on-loop-requires
 lowest-on-loop-requires c κs =
-    let f = c .before .before .before .before .before .before .before in
-    let s = f .before .before in
-    let a = s .args in
-    wired (a .i) (a .c) (a .o) (a .kinds .now) (a .counts .now) _ (a .nets .now) (f .first-pins .ensures (a .i) (a .o) (a .kinds .now) (a .nets .now)) (s .pre .0)
+    let s = c .before .before .before .before .before .before .before .before .before in
+    wired _ _ (s .args .z .outputs) (s .args .kinds .now) (s .args .counts .now) _ _ (firsts-found (c .before .before .before .before .before .before .before)) (s .pre .0)
 
 returns : tie.Need-returns
 returns c =
-    let k = c .before .before .before in
-    let o = k .before .before in
-    let f = o .before .before .before in
-    let s = f .before .before in
-    let a = s .args in
-    let F = f .first-pins .ensures (a .i) (a .o) (a .kinds .now) (a .nets .now) in
-    c .lowest-on-loop .ensures (a .o) (a .kinds .now) (a .counts .now) F (settled-loop _ _ _ _ (o .order-cells .ensures (a .o) (a .kinds .now) (a .counts .now) F) (k .j .given .1))
+    let o = c .before .before .before .before .before in
+    let a = o .before .before .before .before .before .args in
+    c .lowest-on-loop .ensures (a .z .outputs) (a .kinds .now) (a .counts .now) (firsts-found (o .before .before .before)) (settled-loop _ _ _ _ (settled o) (c .before .before .before .j .given .1))
 
 enum-told : tie.Need-enum-told
 enum-told c = search needs
 
 branches-requires : tie.Need-branches-requires
 branches-requires c κs =
-    let t = c .before .before .before in
-    let o = t .before .before in
-    let f = o .before .before .before in
-    let s = f .before .before in
-    let a = s .args in
-    let F = f .first-pins .ensures (a .i) (a .o) (a .kinds .now) (a .nets .now) in
-    (s .pre .0, (s .pre .1 .0, (F, settled-done _ _ _ (o .order-cells .ensures (a .o) (a .kinds .now) (a .counts .now) F) (t .enum-told .given .1))))
+    let o = c .before .before .before .before .before in
+    let s = o .before .before .before .before .before in
+    (s .pre .0, (s .pre .1 .0, (firsts-found (o .before .before .before), settled-done _ _ _ (settled o) (c .before .before .before .enum-told .given .1))))
 
-join-blocks-requires : tie.Need-join-blocks-requires
-join-blocks-requires c κs =
-    let br = c .before .before .before .before in
-    let t = br .before .before .before .before in
-    let o = t .before .before in
-    let f = o .before .before .before in
-    let s = f .before .before in
-    let a = s .args in
-    let F = f .first-pins .ensures (a .i) (a .o) (a .kinds .now) (a .nets .now) in
-    let O = settled-done _ _ _ (o .order-cells .ensures (a .o) (a .kinds .now) (a .counts .now) F) (t .enum-told .given .1) in
-    (s .pre .0, (s .pre .1 .0, (F, (O, br .branches .ensures))))
-
-enum-known-z : tie.Need-enum-known-z
-enum-known-z c = search needs
+prepare-ordered-requires : tie.Need-prepare-ordered-requires
+prepare-ordered-requires c κs =
+    let b = c .before .before .before .before .before in
+    let s = b .before .before .before .before .before .before .before .before .before .before .before in (
+      record {
+        limits = s .pre .0;
+        first-pins = firsts-found (b .before .before .before .before .before .before .before .before .before);
+        ordered = settled-done _ _ _ (settled (b .before .before .before .before .before .before)) (b .before .before .before .before .enum-told .given .1);
+        branched = record { inputs = refl; pins = s .pre .1 .0; table = b .branches .ensures };
+      },
+      s .pre .1 .1,
+    )
 
 returns-2 : tie.Need-returns-2
-returns-2 c =
-    let jb = c .before .before .before in
-    let br = jb .before .before .before .before .before in
-    let t = br .before .before .before .before in
-    let o = t .before .before in
-    let f = o .before .before .before in
-    let s = f .before .before in
-    let a = s .args in
-    let F = f .first-pins .ensures (a .i) (a .o) (a .kinds .now) (a .nets .now) in
-    let O = settled-done _ _ _ (o .order-cells .ensures (a .o) (a .kinds .now) (a .counts .now) F) (t .enum-told .given .1) in
-    (order-free O, depth-over _ _ _ _ _ (jb .join-blocks .ensures) (c .before .z .given .1))
-
-enum-known-w : tie.Need-enum-known-w
-enum-known-w c = search needs
-
-number-blocks-requires : tie.Need-number-blocks-requires
-number-blocks-requires c κs =
-    let dp = c .before .before .before .before in
-    let jb = dp .before .before in
-    let D = depth-of _ _ _ _ _ (jb .join-blocks .ensures) (dp .w .given .1) .0 in
-    let br = jb .before .before .before .before .before in
-    let s = br .before .before .before .before .before .before .before .before .before .before .before in
-    (s .pre .0, (s .pre .1 .0, (D .lowest, br .branches .ensures)))
-
-uneven-block-requires : tie.Need-uneven-block-requires
-uneven-block-requires c κs =
-    let nb = c .before .before .before .before .before in
-    let dp = nb .before .before .before .before .before in
-    let jb = dp .before .before in
-    let (D, U) = depth-of _ _ _ _ _ (jb .join-blocks .ensures) (dp .w .given .1) in
-    let br = jb .before .before .before .before .before in
-    let t = br .before .before .before .before in
-    let o = t .before .before in
-    let f = o .before .before .before in
-    let s = f .before .before in
-    let a = s .args in
-    let F = f .first-pins .ensures (a .i) (a .o) (a .kinds .now) (a .nets .now) in
-    let O = settled-done _ _ _ (o .order-cells .ensures (a .o) (a .kinds .now) (a .counts .now) F) (t .enum-told .given .1) in
-    let n = nb .number-blocks .ensures in
-    (s .pre .0, (s .pre .1 .0, (F, (O, ((D .shallow, D .depth .within), (blocks-few _ (s .pre .0) _ (D .lowest) _ _ n, (blocks-one _ (s .pre .0) _ (D .lowest) _ _ n, (s .pre .1 .1, (br .branches .ensures, U)))))))))
-
-classify-requires : tie.Need-classify-requires
-classify-requires c κs = search needs
-
-returns-3 : tie.Need-returns-3
-returns-3 c =
-    let u = c .before in
-    let nb = u .before .before .before .before .before .before in
-    let dp = nb .before .before .before .before .before in
-    let jb = dp .before .before in
-    let (D, U) = depth-of _ _ _ _ _ (jb .join-blocks .ensures) (dp .w .given .1) in
-    let br = jb .before .before .before .before .before in
-    let t = br .before .before .before .before in
-    let o = t .before .before in
-    let f = o .before .before .before in
-    let s = f .before .before in
-    let a = s .args in
-    let F = f .first-pins .ensures (a .i) (a .o) (a .kinds .now) (a .nets .now) in
-    let O = settled-done _ _ _ (o .order-cells .ensures (a .o) (a .kinds .now) (a .counts .now) F) (t .enum-told .given .1) in
-    shaped _ (s .pre .0) _ (D .lowest) _ _ (nb .number-blocks .ensures) _ (br .branches .ensures) _ _ _ _ _ _ _ F O D U (u .uneven-block .ensures) (c .classify .ensures)
+returns-2 c = c .prepare-ordered .ensures
 
 pub prepare-spec : {M : Type 1} → statement M
 prepare-spec =
@@ -134,11 +78,5 @@ prepare-spec =
     returns
     enum-told
     branches-requires
-    join-blocks-requires
-    enum-known-z
-    returns-2
-    enum-known-w
-    number-blocks-requires
-    uneven-block-requires
-    classify-requires
-    returns-3)
+    prepare-ordered-requires
+    returns-2)

@@ -1,54 +1,29 @@
+-- `structure::see_all` keeps its contract: the pins have what they reach at any depth, which is what the branches reach at the depths up to d.
 use Prim.Native.Nat.{suc, _+_}
 use mathlib.Core.Path.{_≡_}
 use native.Mathlib.Omega.{arith}
-use borrow.Author.Needs.{needs}
-use Rattle.chip.specs.Inner.Tables.{tabled}
 use Rattle.chip.proofs.Plain.{within-branches}
 use Rattle.order.proofs.Order.{ranked-of}
-use Rattle.structure.proofs.Evenness.{seen-start}
-use Rattle.structure.proofs.Flat.{flat-limits, flat-ordered, flat-before, flat-span}
+use Rattle.structure.proofs.Evenness.{seen-start, span-all}
 use Rattle.structure.proofs.see_all.Statement.{statement}
 use Rattle.structure.proofs.see_all.Tie as tie
 
-flat-kinds-requires : tie.Need-flat-kinds-requires
-flat-kinds-requires c κs = search needs
-
-level-requires : tie.Need-level-requires
-level-requires c κs =
-    let s = c .before .before .before .before .before .before in
-    let a = s .args in
-    let P = s .pre in
-    let same = c .before .before .before .before .flat-kinds .ensures in (
-      flat-limits (a .i) (a .c) (a .o) (a .kinds .now) (a .counts .now) (a .nets .now) _ (P .0) same,
-      (
-        P .1 .1 .0,
-        (
-          flat-ordered (a .i) (a .c) (a .o) (a .kinds .now) (a .counts .now) (a .nets .now) _ (P .0) same _ (P .1 .1 .1 .0),
-          flat-before (a .i) (a .c) (a .o) (a .kinds .now) (a .counts .now) (a .nets .now) _ (P .0) same,
-        ),
-      ),
-    )
-
-add-see : tie.Need-add-see
-add-see c = let P = c .before .before .before .before .before .before .before .pre in omega (arith, P .1 .1 .1 .1 .0 .0)
+reach-masks-requires : tie.Need-reach-masks-requires
+reach-masks-requires c κs = let T = c .before .pre .0 in (T .limits, (T .first-pins, T .ordered))
 
 see-requires : tie.Need-see-requires
 see-requires c κs =
-    let s = c .before .before .before .before .before .before .before .before .before in
-    let a = s .args in
-    let P = s .pre in
-    let N = tabled (a .i) (a .c) (a .o) (a .kinds .now) (a .counts .now) (a .nets .now) in
-    let same = c .before .before .before .before .before .before .before .flat-kinds .ensures in
-    let deep = within-branches N (P .0 .sound) (ranked-of (P .1 .1 .1 .0)) (a .d) .0 (P .1 .1 .1 .1 .0 .1) in
-    let span = flat-span (a .i) (a .c) (a .o) (a .kinds .now) (a .counts .now) (a .nets .now) _ (P .0) same (a .d) deep (c .before .before .level .ensures) in
-    (P .0, (P .1 .0, ((omega arith, span), (P .1 .1 .1 .1 .1 .0, (seen-start N (a .labels .now) (a .seen .now) (P .1 .1 .1 .1 .1 .1 .0), P .1 .1 .1 .1 .1 .1 .1)))))
+    let P = c .before .before .before .before .pre in
+    (omega (arith, P .0 .limits .few-pins, P .0 .branched .pins), P .1 .0)
 
 returns : tie.Need-returns
-returns c =
-    let d = c .before .before .before .before .before .before .before .before .before .before .args .d in
+returns c = λ d w.
+    let s = c .before .before .before .before .before in
+    let T = s .pre .0 in
+    let pins = c .before .before .before .reach-masks .last .1 .1 .1 .1 .1 .1 .1 .1 .0 in
+    let deep = within-branches _ (T .limits .sound) (ranked-of (T .ordered)) d .0 w in
     let e : suc d ≡ d + 1 = omega arith in
-    rw e (c .see .ensures)
+    rw e (c .see .ensures _ 0 (d + 1) (omega arith) (T .branched) (span-all _ d pins deep (c .before .before .before .reach-masks .ensures)) (seen-start _ _ (s .args .seen .now) (s .pre .1 .1)))
 
 pub see-all-spec : {M : Type 1} → statement M
-see-all-spec =
-    tie.close (tie.spec flat-kinds-requires level-requires add-see see-requires returns)
+see-all-spec = tie.close (tie.spec reach-masks-requires see-requires returns)

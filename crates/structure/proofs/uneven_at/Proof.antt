@@ -1,6 +1,7 @@
+-- `structure::uneven_at` keeps its contract: where no input's net reaches an output no branch does, and so there is no conflict and no label is seen at one.
 use borrow.Author.Needs.{needs}
+use Prim.Native.Nat.{_+_}
 use native.Mathlib.Omega.{arith}
-use Rattle.chip.specs.Inner.Tables.{tabled}
 use Rattle.order.proofs.Order.{ranked-of}
 use Rattle.balance.proofs.Inputs.{no-branch}
 use Rattle.structure.proofs.Evenness.{span-one, seen-none}
@@ -11,32 +12,20 @@ any-net-requires : tie.Need-any-net-requires
 any-net-requires c κs = search needs
 
 returns : tie.Need-returns
-returns c =
-    let s = c .before .before in
-    let a = s .args in
-    let P = s .pre in
-    let N = tabled (a .i) (a .c) (a .o) (a .kinds .now) (a .counts .now) (a .nets .now) in
-    let m = c .before .any-net .ensures N (a .e) (omega arith) (P .1 .1 .1 .0 .nets) in
-    seen-none N (a .labels .now) (a .e) (a .best) _ (no-branch N (P .0 .sound) (ranked-of (P .1 .1 .0 .1)) (a .e) (rw (c .if1 .taken) at m)) (P .1 .1 .1 .1 .1 .0)
+returns c = λ N e order L O B M K.
+    let m = c .before .any-net .ensures N e (omega (arith, B .inputs)) (M .nets) in
+    seen-none N _ e _ _ (no-branch N (L .sound) (ranked-of O) e (rw (c .if1 .taken, ← B .inputs) at m)) K
 
 conflict-requires : tie.Need-conflict-requires
-conflict-requires c κs =
-    let P = c .before .before .before .pre in
-    (P .0, (P .1 .0, (P .1 .1 .1 .0 .pins, (P .1 .1 .1 .1 .0, (P .1 .1 .1 .1 .1 .0, P .1 .1 .1 .1 .1 .1)))))
-
-add-see : tie.Need-add-see
-add-see c = search needs
+conflict-requires c κs = let P = c .before .before .before .pre in (P .1, P .2)
 
 see-requires : tie.Need-see-requires
-see-requires c κs =
-    let s = c .before .before .before .before .before in
-    let P = s .pre in
-    (P .0, (P .1 .0, ((omega arith, span-one _ (s .args .e) (s .args .pins .now) (P .1 .1 .1 .0 .pins)), (P .1 .1 .1 .1 .0, (P .1 .1 .1 .1 .1 .0, P .1 .1 .1 .1 .1 .1)))))
+see-requires c κs = let P = c .before .before .before .before .before .pre in (P .1, P .2)
 
 returns-2 : tie.Need-returns-2
-returns-2 c = record { lowest = c .before .before .conflict .ensures; seen-now = c .see .ensures }
+returns-2 c = λ N e order L O B M K.
+    let pins = c .before .before .before .before .before .before .args .pins .now in
+    record { lowest = c .before .before .conflict .ensures N e B (M .pins) K; seen-now = c .see .ensures N e (e + 1) (omega arith) B (span-one N e pins (M .pins)) K }
 
 pub uneven-at-spec : {M : Type 1} → statement M
-uneven-at-spec =
-    tie.close
-    (tie.spec any-net-requires returns conflict-requires add-see see-requires returns-2)
+uneven-at-spec = tie.close (tie.spec any-net-requires returns conflict-requires see-requires returns-2)

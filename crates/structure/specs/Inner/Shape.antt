@@ -3,13 +3,14 @@ use Prim.Native.Nat.{ℕ, suc, _+_, _≤_, _<_}
 use mathlib.Core.Path.{_≡_}
 use mathlib.Core.List.{List}
 use lib.ListN.{getD}
-use Rattle.chip.specs.Netlist.{Netlist}
+use Rattle.chip.specs.Netlist.{Netlist, allPins}
+use Rattle.chip.specs.Inner.Limits.{InLimits}
 use Rattle.chip.specs.Inner.Tables.{FirstPins, BranchTable}
-use Rattle.chip.specs.Transformed.{flat}
 use Rattle.chip.specs.Class.{LoopFree, Branch, Depth, Lowest, Prepared, blocks}
 use Rattle.chip.specs.Clocks.{BlockReaches}
 use Rattle.order.specs.Order.{Ordered}
 use Rattle.levels.specs.Levels.{Mask, MasksBefore, AnyReach}
+use Rattle.levels.specs.Branches.{Branched}
 use Rattle.blocks.specs.Labels.{LevelJoined, BlockTable}
 use Rattle.balance.specs.Balance.{SeenMasks, LowestConflict, LowestUneven}
 use Rattle.chip.specs.Refusals.{When9, When10, When11}
@@ -18,6 +19,13 @@ use Rattle.structure.specs.declared.Depths.{Depths}
 use Rattle.structure.specs.declared.Depths.the-variants.{Is, Over}
 use Rattle.structure.specs.declared.Found.{Found}
 use Rattle.structure.specs.declared.Found.the-variants.{Looped, TooDeep, Chip}
+
+-- a netlist within the limits, with its first pins, an order of its cells, its number of pins n and its branches
+pub record InOrder (N : Netlist) (n : ℕ) (firsts order branches : List ℕ) : Type 0 where
+  pub limits : InLimits N
+  pub first-pins : FirstPins N firsts
+  pub ordered : Ordered N order
+  pub branched : Branched N (N .inputs) n branches
 
 -- one depth further: the masks of the nets for the next, the labels with all pairs at this depth joined, the outputs reached at it
 pub record Deeper (N : Netlist) (e : ℕ) (masks : List ℕ) (low low′ : ℕ → ℕ) (outs : ℕ) : Type 0 where
@@ -34,10 +42,6 @@ pub record DepthFound (N : Netlist) (low : ℕ → ℕ) (d : ℕ) : Type 0 where
 abbrev pub DepthIs : Netlist → List ℕ → (ℕ → ℕ) → Depths → Type 0
 DepthIs N branches low (Is m) = DepthFound N low (m .depth) × LowestUneven N branches (m .input)
 DepthIs N branches low (Over z) = When10 N z
-
--- the table has the kinds without flip-flops
-pub record FlatKinds (kinds gates : List ℕ) : Type 0 where
-  pub at-cell : (j : ℕ) → j < 1024 → getD gates j 0 ≡ flat (getD kinds j 0)
 
 -- branches with one label are branches of one input
 abbrev pub OneInput : Netlist → List ℕ → Type 0
@@ -71,6 +75,12 @@ pub record Shaped (N : Netlist) (firsts order branches block reached : List ℕ)
   pub block-table : BlockTable N low block
   pub reach-table : (b : ℕ) → b < s .blocks → Mask (N .outs) (getD reached b 0) (λ z. BlockReaches N (blocks N low) z b)
   pub place : s .class ≡ 1 → When11 N (s .place)
+
+-- a chip that is ready for every step behind: within the limits, with its number of pins n, and prepared with all its tables
+pub record Ready (N : Netlist) (n : ℕ) (s : Shape) (firsts order branches block reached : List ℕ) : Type 0 where
+  pub limits : InLimits N
+  pub pins : n ≡ allPins N
+  pub shaped : Shaped N firsts order branches block reached s
 
 abbrev pub FoundIs : Netlist → List ℕ → List ℕ → List ℕ → List ℕ → List ℕ → Found → Type 0
 FoundIs N firsts order branches block reached (Looped n) = When9 N n

@@ -1,3 +1,4 @@
+-- After l marks the copies passed have their nets, each at its own number, and no pin of an old cell or output is written.
 use Prim.Native.Nat.{ℕ, _+_, _*_, _-_, _/_, _%_, _≤_, _<_}
 use mathlib.Core.Path.{_≡_, refl, ap, _∙_}
 use mathlib.Core.Logic.{_⊎_, inl, inr, ⊎-elim, _≢_}

@@ -1,3 +1,4 @@
+-- An input stands as the block, a marked cell as the copy with its number, an unmarked one as itself, by the marks and numbers.
 use Prim.Native.Nat.{_<_, _+_, _-_}
 use native.Mathlib.Omega.{arith}
 use borrow.Author.Needs.{needs}

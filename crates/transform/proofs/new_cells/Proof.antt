@@ -1,3 +1,4 @@
+-- After j cells both tables have the kinds and pin counts of those, and a step writes entry j of each and no other.
 use Prim.Native.Nat.{ℕ, _-_, _≤_, _<_}
 use mathlib.Core.Path.{_≡_}
 use mathlib.Core.Bool.{cond}

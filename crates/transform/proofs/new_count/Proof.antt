@@ -1,3 +1,4 @@
+-- An old cell keeps its pin count, and every cell from c on is a copy, a BUF with one pin.
 use mathlib.Core.Path.{refl}
 use borrow.Author.Needs.{needs}
 use borrow.Author.Tests.{lt-ltb, le-ltb}

@@ -1,3 +1,4 @@
+-- Below c the kind is an old cell's without its flip-flop, and from c on each cell is a copy, so a BUF.
 use mathlib.Core.Path.{refl}
 use borrow.Author.Needs.{needs}
 use borrow.Author.Tests.{lt-ltb, le-ltb}

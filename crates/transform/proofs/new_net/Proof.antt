@@ -1,3 +1,4 @@
+-- A branch goes to what stands for its net in its block, a pin into a pad buffer to the lowest block, any other to its net's old cell.
 use Prim.Native.Nat.{_<_, _-_}
 use mathlib.Core.Path.{refl, ap, _∙_}
 use native.Mathlib.Omega.{arith}

@@ -1,3 +1,4 @@
+-- Pins of cells come before the output pins and stay, and those of outputs move up by the m pins of the copies.
 use mathlib.Core.Path.{refl}
 use native.Mathlib.Omega.{arith}
 use borrow.Author.Needs.{needs}

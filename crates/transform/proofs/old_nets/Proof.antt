@@ -1,3 +1,4 @@
+-- After p pins each of them has its new net at its moved place, and no two pins move to one place.
 use Prim.Native.Nat.{ℕ, _-_, _≤_, _<_}
 use mathlib.Core.Path.{_≡_, ap, _∙_}
 use mathlib.Core.List.{List}

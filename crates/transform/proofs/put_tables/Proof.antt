@@ -1,3 +1,4 @@
+-- New cells, old nets and copied nets fill different entries, and together they are the tables of the transformed circuit.
 use Prim.Native.Nat.{_+_, _-_}
 use mathlib.Core.Path.{_≡_, sym}
 use native.Mathlib.Omega.{arith}

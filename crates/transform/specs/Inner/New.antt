@@ -5,7 +5,8 @@ use mathlib.Core.Bool.{true, cond}
 use mathlib.Core.List.{List}
 use lib.Dec.{ltb}
 use lib.ListN.{length, getD}
-use Rattle.chip.specs.Netlist.{Netlist, InLimits, firstPin, outPin, allPins}
+use Rattle.chip.specs.Netlist.{Netlist, firstPin, outPin, allPins}
+use Rattle.chip.specs.Inner.Limits.{InLimits}
 use Rattle.chip.specs.Class.{LoopFree, Lowest, Blocks, blocks}
 use Rattle.chip.specs.Transformed.{copied, copyAt, netFor, home, copies, openedNet, flat, transformed}
 use Rattle.chip.specs.Inner.Tables.{tabled, BranchTable}

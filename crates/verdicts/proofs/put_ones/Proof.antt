@@ -1,3 +1,4 @@
+-- After k stores the first k words of slot 1041 have all bits set, and no other word has changed.
 use Prim.Native.Nat.{_-_, _^_, _≤_}
 use mathlib.Core.Path.{_≡_, refl}
 use native.Mathlib.Omega.{arith}

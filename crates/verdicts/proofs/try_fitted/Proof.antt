@@ -1,9 +1,9 @@
+-- A prepared chip gives what `chip_tables` asks, and words that are 0 but for the ones in their slot are a blank store.
 use mathlib.Core.Path.{refl}
 use native.Mathlib.Omega.{arith}
 use Prim.Native.Nat.{ℕ}
 use lib.ListN.{length-replicate}
 use Rattle.chip.proofs.Basics.{zero-at}
-use Rattle.walk.proofs.Walking.{ready-few, ready-laid}
 use Rattle.verdicts.proofs.Judging.{store-blank}
 use borrow.Author.Needs.{needs}
 use Rattle.verdicts.proofs.try_fitted.Statement.{statement}
@@ -20,25 +20,9 @@ slice-aggregate-chip-tables-3 c = search needs
 
 chip-tables-requires : tie.Need-chip-tables-requires
 chip-tables-requires c κs =
-    let s = c .before .before .before .before .before .before .before .before .before .before .before in
-    let R = s .pre .0 in (
-      R .limits,
-      (
-        R .pins,
-        (
-          R .shaped .first-pins,
-          (
-            R .shaped .ordered,
-            (
-              R .shaped .branch-table,
-              (
-                (s .args .s .blocks, ready-few _ _ _ _ _ _ _ _ _ R, (R .shaped .low, ready-laid _ _ _ _ _ _ _ _ _ R (s .pre .1 .0 .0) (R .shaped .low) (R .shaped .prepared .lowest))),
-                ((omega (arith, c .before .before .before .before .chip-tables-arg .given), refl, refl), ((refl, λ x. zero-at 5185 x), s .pre .1 .1 .0)),
-              ),
-            ),
-          ),
-        ),
-      ),
+    let s = c .before .before .before .before .before .before .before .before .before .before .before in (
+      (_, _, s .pre .1 .0 .0, s .pre .0 .0),
+      ((omega (arith, c .before .before .before .before .chip-tables-arg .given), refl, refl), ((refl, λ x. zero-at 5185 x), s .pre .1 .1 .0)),
     )
 
 slice-aggregate-put-ones : tie.Need-slice-aggregate-put-ones
@@ -70,14 +54,16 @@ slice-aggregate-try-outputs-5 c = search needs
 
 try-outputs-requires : tie.Need-try-outputs-requires
 try-outputs-requires c κs =
-    let s = c .before .before .before .before .before .before .before .before .before .before .before .before .before .before .before .before .before .before .before .before .before .before .before .before .before .before .before .before .before .before .before .before .before in
+    let filled = c .before .before .before .before .before .before .before .before .before .before .before .before .before .before in
+    let fitted = filled .before .before .before .before .before .before .before in
+    let s = fitted .before .before .before .before .before .before .before .before .before .before .before .before in
     let given = s .pre .1 .1 .1 in (
-      (s .args .cone .now, s .pre .0, c .before .before .before .before .before .before .before .before .before .before .before .before .before .before .before .before .before .before .before .before .before .chip-tables .ensures),
-      (s .pre .1 .0, (store-blank _ _ _ _ (length-replicate {A = ℕ} 16672 0) (λ x. zero-at 16672 x) (c .before .before .before .before .before .before .before .before .before .before .before .before .before .before .put-ones .ensures) (c .before .before .before .before .before .before .before .before .before .before .before .put-ones2 .ensures), given .0, given .1, given .2)),
+      (s .args .cone .now, s .pre .0 .0, s .pre .0 .1, fitted .chip-tables .ensures),
+      (s .pre .1 .0, (store-blank _ _ _ _ (length-replicate {A = ℕ} 16672 0) (λ x. zero-at 16672 x) (filled .put-ones .ensures) (c .before .before .before .before .before .before .before .before .before .before .before .put-ones2 .ensures), given .0, given .1, given .2)),
     )
 
 same-length : tie.Need-same-length
-same-length c = omega (arith, c .before .before .before .before .before .before .before .before .before .before .before .before .before .before .before .before .before .before .before .before .before .before .before .before .before .before .before .before .before .readers .given)
+same-length c = let filled = c .before .before .before .before .before .before .before .before .before .before .before .before in omega (arith, filled .before .before .before .before .before .before .before .before .before .before .before .before .before .before .before .before .before .readers .given)
 
 same-length-2 : tie.Need-same-length-2
 same-length-2 c = search needs
@@ -92,7 +78,11 @@ same-length-5 : tie.Need-same-length-5
 same-length-5 c = search needs
 
 returns : tie.Need-returns
-returns c = let t = c .before .before .before .before .before .before .before .before .before .before .try-outputs .ensures in (t .0, (omega (arith, c .before .before .before .before .before .before .before .before .before .before .before .before .before .before .before .before .before .before .before .before .before .before .before .before .before .before .before .before .before .readers .given, c .before .before .before .before .before .before .before .before .before .before .before .before .before .before .before .before .before .before .before .before .before .before .before .before .before .before .before .before .before .before .before .before .before .before .before .before .before .before .before .before .before .before .before .before .pre .1 .1 .0 .0), t .1 .2))
+returns c =
+    let tried = c .before .before .before .before .before .before .before .before .before .before in
+    let r = tried .before .before .before .before .before .before .before .before .before .before .before .before .before .before .before .before .before .before .before in
+    let t = tried .try-outputs .ensures in
+    (t .0, (omega (arith, r .readers .given, r .before .before .before .before .before .before .before .before .before .before .before .before .before .before .before .pre .1 .1 .0 .0), t .1 .2))
 
 pub try-fitted-spec : {M : Type 1} → statement M
 try-fitted-spec =

@@ -1,10 +1,11 @@
+-- The outputs in `todo` are still to be tried and none is below y, so at the end none is left and all patterns are tried.
 use Prim.Native.Nat.{ℕ, _-_, _≤_, _<_}
 use mathlib.Core.Path.{_≡_, sym, _∙_}
 use mathlib.Core.Logic.{⊎-elim}
 use mathlib.Core.Bool.{true, false}
 use native.Mathlib.Omega.{arith}
 use borrow.Author.Needs.{needs}
-use Rattle.chip.specs.Inner.Tables.{tabled}
+use Rattle.chip.specs.Inner.Tables.{sized}
 use lib.Bits.{bitAnd}
 use Rattle.chip.specs.Search.{digit}
 use Rattle.rows.proofs.Bits.{split}
@@ -18,50 +19,44 @@ use Rattle.verdicts.proofs.try_outputs.Statement.{statement}
 use Rattle.verdicts.proofs.try_outputs.Tie as tie
 
 abbrev Inv-loop : tie.InvT-loop
-Inv-loop i c o n s kinds counts firsts nets order branches block reached sources reach heads readers input goods₀ vals₀ left₀ best₀ pat₀ groups₀ todo₀ z₀ goods vals left best pat groups todo z =
-    (z ≤ o) × ((y : ℕ) → y < z → digit y todo ≡ false) × ((y : ℕ) → digit y todo ≡ true → (y < o) × (widthOf (s .blocks) reached y ≤ 16)) × Store c goods vals
-    × Watch i c (tabled i c o kinds counts nets) counts firsts order left groups × AllSofar i c o n (s .blocks) todo kinds counts nets reached left₀ left best pat
+Inv-loop z s kinds counts firsts nets order branches block reached sources reach heads readers input goods₀ vals₀ left₀ best₀ pat₀ groups₀ i c o n todo₀ y₀ goods vals left best pat groups todo y =
+    (y ≤ o) × ((x : ℕ) → x < y → digit x todo ≡ false) × ((x : ℕ) → digit x todo ≡ true → (x < o) × (widthOf (s .blocks) reached x ≤ 16)) × Store (z .cells) goods vals
+    × Watch (z .inputs) (z .cells) (sized z kinds counts nets) counts firsts order left groups
+    × AllSofar (z .inputs) (z .cells) (z .outputs) (z .pins) (s .blocks) todo kinds counts nets reached left₀ left best pat
 
 abbrev μ-loop : tie.MeasureT-loop
-μ-loop i c o n s kinds counts firsts nets order branches block reached sources reach heads readers input goods₀ vals₀ left₀ best₀ pat₀ groups₀ todo₀ z₀ goods vals left best pat groups todo z =
-    o - z
+μ-loop z s kinds counts firsts nets order branches block reached sources reach heads readers input goods₀ vals₀ left₀ best₀ pat₀ groups₀ i c o n todo₀ y₀ goods vals left best pat groups todo y =
+    o - y
 
--- src/lib.rt:226:42
 add-left-all : tie.Need-add-left-all Inv-loop μ-loop
 add-left-all c = search needs
 
--- src/lib.rt:226:42
 add-left-all-2 : tie.Need-add-left-all-2 Inv-loop μ-loop
 add-left-all-2 c = search needs
 
--- src/lib.rt:226:37
 mul-left-all : tie.Need-mul-left-all Inv-loop μ-loop
 mul-left-all c = search needs
 
--- src/lib.rt:226:9
 left-all-requires : tie.Need-left-all-requires Inv-loop μ-loop
 left-all-requires c κs = let R = c .before .before .before .before .before .before .before .before .before .before .before .before .pre .0 .1 in omega (arith, c .before .before .before .before .before .before .before .before .before .before .before .before .pre .1 .1 .1 .long-left, R .pins, R .limits .few-pins, R .limits .few-inputs, R .limits .few-cells)
 
--- src/lib.rt:228:5
 loop-holds : tie.Need-loop-holds Inv-loop μ-loop
 loop-holds c =
     let s = c .before .before .before .before .before .before .before .before .before .before .before .before .before in
     let a = s .args in
     let J = c .left-all .ensures in
-    (omega arith, (λ y l. absurd (omega arith)), todo-there (a .i) (a .c) (a .o) (a .n) (a .s .blocks) (a .kinds .now) (a .counts .now) (a .nets .now) (a .reached .now) (a .left .now) (a .best .now) (s .pre .1 .1 .2) _ J, s .pre .1 .1 .0, s .pre .1 .1 .3, all-start (a .i) (a .c) (a .o) (a .n) (a .s .blocks) (a .kinds .now) (a .counts .now) (a .nets .now) (a .reached .now) (a .left .now) (a .best .now) (s .pre .1 .1 .2) _ _ (s .pre .1 .1 .1) J)
+    (omega arith, (λ y l. absurd (omega arith)), todo-there (a .z .inputs) (a .z .cells) (a .z .outputs) (a .z .pins) (a .s .blocks) (a .kinds .now) (a .counts .now) (a .nets .now) (a .reached .now) (a .left .now) (a .best .now) (s .pre .1 .1 .2) _ J, s .pre .1 .1 .0, s .pre .1 .1 .3, all-start (a .z .inputs) (a .z .cells) (a .z .outputs) (a .z .pins) (a .s .blocks) (a .kinds .now) (a .counts .now) (a .nets .now) (a .reached .now) (a .left .now) (a .best .now) (s .pre .1 .1 .2) _ _ (s .pre .1 .1 .1) J)
 
--- src/lib.rt:229:12
 has-bit-requires : tie.Need-has-bit-requires Inv-loop μ-loop
 has-bit-requires c κs = let R = c .before .before .before .before .before .before .before .before .before .before .before .before .before .before .before .pre .0 .1 in omega (arith, R .limits .few-outputs)
 
--- src/lib.rt:230:21
 group-of-requires : tie.Need-group-of-requires Inv-loop μ-loop
-group-of-requires c κs = let R = c .before .before .before .before .before .before .before .before .before .before .before .before .before .before .before .before .before .pre .0 .1 in (omega (arith, R .limits .few-outputs), ready-few _ _ _ _ _ _ _ _ _ R)
+group-of-requires c κs = let R = c .before .before .before .before .before .before .before .before .before .before .before .before .before .before .before .before .before .pre .0 .1 in (omega (arith, R .limits .few-outputs), ready-few R)
 
--- src/lib.rt:231:13
 try-like-requires : tie.Need-try-like-requires Inv-loop μ-loop
 try-like-requires c κs =
-    let s = c .before .before .before .before .before .before .before .before .before .before .before .before .before .before .before .before .before .before .before .before .before .before .before .before in
+    let h = c .before .before .before .before .before .before .before .before in
+    let s = h .before .before .before .before .before .before .before .before .before .before .before .before .before .before .before .before in
     let a = s .args in
     let R = s .pre .0 .1 in
     let l = c .before .before .before .before .before .before .before .before .before .before .loop in
@@ -72,28 +67,25 @@ try-like-requires c κs =
         (
           l .inv .3,
           l .inv .5 .long,
-          only-left (a .i) (a .c) (a .o) (a .n) (a .s .blocks) (a .kinds .now) (a .counts .now) (a .nets .now) (a .reached .now) (a .left .now) (a .best .now) (s .pre .1 .1 .2) (λ low L. ready-laid _ _ _ _ _ _ _ _ _ R (s .pre .1 .0 .0) low L .count-is) (R .shaped .low) (R .shaped .prepared .lowest) _ _ _ _ (l .inv .5),
+          only-left (a .z .inputs) (a .z .cells) (a .z .outputs) (a .z .pins) (a .s .blocks) (a .kinds .now) (a .counts .now) (a .nets .now) (a .reached .now) (a .left .now) (a .best .now) (s .pre .1 .1 .2) (λ low L. ready-laid R (s .pre .1 .0 .0) low L .count-is) (R .shaped .low) (R .shaped .prepared .lowest) _ _ _ _ (l .inv .5),
           l .inv .4,
         ),
       ),
     )
 
--- src/lib.rt:261:9
-add-z : tie.Need-add-z Inv-loop μ-loop
-add-z c = search needs
+add-y : tie.Need-add-y Inv-loop μ-loop
+add-y c = search needs
 
--- src/lib.rt:228:5
 loop-less : tie.Need-loop-less Inv-loop μ-loop
 loop-less c = search needs
 
--- src/lib.rt:228:5
 loop-again : tie.Need-loop-again Inv-loop μ-loop
 loop-again c =
     let s = c .before .before .before .before .before .before .before .before .before .before .before .before .before .before .before .before .before in
     let a = s .args in
     let R = s .pre .0 .1 in
     let l = c .before .before .before .loop in
-    let low : l .z < a .o = omega (arith, c .before .before .loop-test .taken) in
+    let low : l .y < a .z .outputs = omega (arith, c .before .before .loop-test .taken) in
     ⊎-elim
     (λ w.
     let d = sym (c .before .has-bit .ensures) ∙ w .0 .taken in
@@ -107,45 +99,38 @@ loop-again c =
       (λ y e. l .inv .2 y (todo-fewer _ _ inside y e)),
       T .0,
       T .1 .0,
-      all-step (a .i) (a .c) (a .o) (a .n) (a .s .blocks) (a .kinds .now) (a .counts .now) (a .nets .now) (a .reached .now) (a .left .now) (a .best .now) (s .pre .1 .1 .2) (λ low L. ready-laid _ _ _ _ _ _ _ _ _ R (s .pre .1 .0 .0) low L .count-is) _ _ _ _ _ _ _ _ _ G (l .inv .5) (T .1 .1),
+      all-step (a .z .inputs) (a .z .cells) (a .z .outputs) (a .z .pins) (a .s .blocks) (a .kinds .now) (a .counts .now) (a .nets .now) (a .reached .now) (a .left .now) (a .best .now) (s .pre .1 .1 .2) (λ low L. ready-laid R (s .pre .1 .0 .0) low L .count-is) _ _ _ _ _ _ _ _ _ G (l .inv .5) (T .1 .1),
     ))
     (λ w.
     let d = sym (c .before .has-bit .ensures) ∙ w .0 .left in
     rw (w .1, w .2, w .3, w .4, w .5, w .6, w .7) (omega arith, todo-skip _ _ d (l .inv .1), l .inv .2, l .inv .3, l .inv .4, l .inv .5))
     (c .if1 .came)
 
--- src/lib.rt:194:1
 same-length : tie.Need-same-length Inv-loop μ-loop
 same-length c = let s = c .before .before .before .before .before .before .before .before .before .before .before .before .before .before .before in let l = c .before .loop in l .inv .3 .words ∙ sym (s .pre .1 .1 .0 .words)
 
--- src/lib.rt:194:1
 same-length-2 : tie.Need-same-length-2 Inv-loop μ-loop
 same-length-2 c = let s = c .before .before .before .before .before .before .before .before .before .before .before .before .before .before .before in let l = c .before .loop in l .inv .3 .runs ∙ sym (s .pre .1 .1 .0 .runs)
 
--- src/lib.rt:194:1
 same-length-3 : tie.Need-same-length-3 Inv-loop μ-loop
 same-length-3 c = let s = c .before .before .before .before .before .before .before .before .before .before .before .before .before .before .before in let l = c .before .loop in l .inv .5 .long .long-left ∙ sym (s .pre .1 .1 .1 .long-left)
 
--- src/lib.rt:194:1
 same-length-4 : tie.Need-same-length-4 Inv-loop μ-loop
 same-length-4 c = let s = c .before .before .before .before .before .before .before .before .before .before .before .before .before .before .before in let l = c .before .loop in l .inv .5 .long .long-best ∙ sym (s .pre .1 .1 .1 .long-best)
 
--- src/lib.rt:194:1
 same-length-5 : tie.Need-same-length-5 Inv-loop μ-loop
 same-length-5 c = let s = c .before .before .before .before .before .before .before .before .before .before .before .before .before .before .before in let l = c .before .loop in l .inv .5 .long .long-pat ∙ sym (s .pre .1 .1 .1 .long-pat)
 
--- src/lib.rt:194:1
 same-length-6 : tie.Need-same-length-6 Inv-loop μ-loop
 same-length-6 c = let s = c .before .before .before .before .before .before .before .before .before .before .before .before .before .before .before in let l = c .before .loop in l .inv .4 .long ∙ sym (s .pre .1 .1 .3 .long)
 
--- src/lib.rt:194:1
 returns : tie.Need-returns Inv-loop μ-loop
 returns c =
     let s = c .before .before .before .before .before .before .before .before .before .before .before .before .before .before .before in
     let a = s .args in
     let l = c .before .loop in
-    let e : l .z ≡ a .o = omega arith in
-    (all-end (a .i) (a .c) (a .o) (a .n) (a .s .blocks) (a .kinds .now) (a .counts .now) (a .nets .now) (a .reached .now) (a .left .now) (a .best .now) (s .pre .1 .1 .2) _ _ _ _ (λ y h. l .inv .1 y (omega arith)) (l .inv .5), (l .inv .3 .words, l .inv .3 .runs, l .inv .4 .long))
+    let e : l .y ≡ a .z .outputs = omega arith in
+    (all-end (a .z .inputs) (a .z .cells) (a .z .outputs) (a .z .pins) (a .s .blocks) (a .kinds .now) (a .counts .now) (a .nets .now) (a .reached .now) (a .left .now) (a .best .now) (s .pre .1 .1 .2) _ _ _ _ (λ y h. l .inv .1 y (omega arith)) (l .inv .5), (l .inv .3 .words, l .inv .3 .runs, l .inv .4 .long))
 
 pub try-outputs-spec : {M : Type 1} → statement M
 try-outputs-spec =
@@ -161,7 +146,7 @@ try-outputs-spec =
     has-bit-requires
     group-of-requires
     try-like-requires
-    add-z
+    add-y
     loop-less
     loop-again
     same-length

@@ -1,3 +1,4 @@
+-- Kind and pin count are stored as two bytes, and the pins follow right behind them, which is the cell's piece of the file.
 use mathlib.Core.Path.{_∙_}
 use mathlib.Core.List.{[]}
 use native.Mathlib.Omega.{arith}
