@@ -6,7 +6,7 @@ from pathlib import Path
 
 from sources import tree
 
-START = re.compile(r"^(pub )?fn (\w+)(?:<'\w+>)?\(", re.M)
+START = re.compile(r"^(pub )?fn (\w+)(?:<'\w+(?:, '\w+)*>)?\(", re.M)
 CLAUSE = re.compile(r"^    (requires|ensures) \{ (.*?) \}$", re.M | re.S)
 
 
@@ -23,6 +23,21 @@ class Function:
 
 def one_line(text):
     return re.sub(r"\s+", " ", text).replace("( ", "(").replace(", )", ")").replace(",)", ")").strip()
+
+
+def arguments_of(signature):
+    """How many arguments a function takes: the commas between its brackets that stand in no others, and one more."""
+    depth, number, text = 0, 0, ""
+    for letter in signature[signature.index("(") + 1:]:
+        if letter == ")" and depth == 0:
+            break
+        depth += (letter in "([") - (letter in ")]")
+        if letter == "," and depth == 0:
+            number += bool(text.strip())
+            text = ""
+        else:
+            text += letter
+    return number + bool(text.strip())
 
 
 def head_of(text):

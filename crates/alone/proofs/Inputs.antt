@@ -27,15 +27,14 @@ use Rattle.chip.proofs.Basics.{some-pin}
 use Rattle.rows.specs.Rows.{Filled, onRow}
 use Rattle.rows.proofs.Fill.{row-at}
 use Rattle.rows.proofs.Bits.{meet}
-use Rattle.events.specs.Events.{marked, Live, Marks, Chip, Agree, Marked, Ran, Restored}
+use Rattle.events.specs.Events.{marked, Live, Marks, Chip, Agree, Marked, Ran}
 use Rattle.words.proofs.Lanes.{gate-same}
 use Rattle.events.proofs.Running.{outside}
 use Rattle.flip.specs.Bed.{Bed, Start, Rules}
 use Rattle.flip.proofs.Flips.{no-out, Stuck, input-lane}
 use Rattle.faults.specs.Numbers.{faultNumber}
 use Rattle.bridge.proofs.Bridge.{lane}
-use Rattle.cells.specs.Cells.{Good, Clear, Back}
-use Rattle.cells.proofs.Trying.{same-table}
+use Rattle.cells.specs.Cells.{Good, Clear}
 use Rattle.known.specs.Setting.{Shows, Setting, Long, runLane, Went}
 use Rattle.known.proofs.Advance.{advance-none}
 use Rattle.alone.specs.Alone.{VarPut, VarsPut, VarMarked, VarsMarked, VariableReaders, InputRan, InputTried, Variables, InputStep}
@@ -153,9 +152,6 @@ freed-agree c w f u kinds counts firsts src order reach list input goods vals ch
   where
     other : ((k : ℕ) → k < w → getD input (getD list k 0) 0 ≡ f / 2 → x / 16 ≢ k) → getD vals′ x 0 ≡ getD goods x 0
     other d = P .others x d ∙ R .agree x g d
-
-pub all-back : (goods vals vals′ marks changed : List ℕ) → length vals ≡ length goods → Restored goods vals vals′ → Clear marks → Clear changed → Back goods vals′ marks changed
-all-back goods vals vals′ marks changed l R M D = record { words = same-table vals′ goods (R .long ∙ l) (R .good); marks-clear = M; changed-clear = D }
 
 -- ---- what the run tells
 

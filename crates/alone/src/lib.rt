@@ -1,17 +1,30 @@
-// The faults that are runs of their own, in the chunks from q on, at the outputs of a group g.
-// Fault 2 * site + v: the nets of i inputs and c cells are the first sites, then come the n pins, the last ones those of the o outputs.
+// The faults that are runs of their own, or looked at without one.
+// Fault 2 * site + v: the nets of inputs and cells are the first sites, then come the pins, the last ones those of the outputs.
 ghost use mathlib.Core.Path.{_≡_};
 ghost use Prim.Native.Nat.{ℕ, _+_, _-_, _*_, _≤_, _<_};
 ghost use lib.ListN.{length, getD};
 ghost use Rattle.events.specs.Events.{Chip};
+ghost use Rattle.events.specs.Lent.{kindsOf, countsOf, inputsOf, firstsOf, orderOf, headsOf, readersOf, slotsOf, outsOf, variablesOf};
 ghost use Rattle.homes.specs.Homes.{Looked};
-ghost use Rattle.cells.specs.Cells.{Good, Back};
+ghost use Rattle.cells.specs.Cells.{Good, Clear};
 ghost use Rattle.known.specs.Setting.{GoodRun, Long, runLane, Went};
 ghost use Rattle.alone.specs.Alone.{Between, OutLooked, OutStep, VarPut, VarsPut, VarMarked, VarsMarked, VariableReaders, InputRan, InputTried, InputStep};
+use chip::CELLS;
+use chip::FAULTS;
 use chip::OUTPUTS;
 use chip::wide;
 use chip::wide8;
+use events::HEAD;
+use events::INPUT;
+use events::MARKS;
+use events::ORDER;
+use events::OUT;
+use events::READER;
+use events::SLOT;
+use events::Trial;
+use events::VARIABLE;
 use rows::ROW;
+use rows::WORDS;
 
 // Looks for fault f, the pin of output z stuck at v, at the outputs of g.
 fn try_out(
@@ -21,10 +34,10 @@ fn try_out(
     q: usize,
     g: u64,
     outs: &[u16],
-    goods: &[u64],
-    left: &mut [u64],
-    best: &mut [u8],
-    pat: &mut [u32],
+    goods: &[u64; WORDS],
+    left: &mut [u64; FAULTS],
+    best: &mut [u8; FAULTS],
+    pat: &mut [u32; FAULTS],
 )
     requires { ⌜ (q < 4096) × (f < 10368) × (z < 64) × (v < 2) × (length (now outs) ≡ 64) × (length (now goods) ≡ 16672) × ((y : ℕ) → y < 64 → 16 * getD (now outs) y 0 + 16 ≤ 16672) ⌝ }
     requires { ⌜ Long (now left) (now best) (now pat) ⌝ }
@@ -39,33 +52,33 @@ fn try_out(
     }
 }
 
-// Tries the stuck pins of the outputs that are open at an output of g.
-pub fn try_outs(
-    i: usize,
-    c: usize,
-    o: usize,
-    n: usize,
-    q: usize,
-    g: u64,
-    outs: &[u16],
-    goods: &[u64],
-    left: &mut [u64],
-    best: &mut [u8],
-    pat: &mut [u32],
+// Tries the stuck pins of the outputs that are open at an output that is asked for.
+pub fn try_outs<'a>(
+    trial: Trial,
+    group: [&'a [u16]; 3],
+    goods: &[u64; WORDS],
+    left: &mut [u64; FAULTS],
+    best: &mut [u8; FAULTS],
+    pat: &mut [u32; FAULTS],
 )
-    requires { ⌜ (i ≤ 64) × (c ≤ 1024) × (n ≤ 4096) × (o ≤ 64) × (o ≤ n) ⌝ }
-    requires { ⌜ (q < 4096) × (length (now outs) ≡ 64) × (length (now goods) ≡ 16672) × ((y : ℕ) → y < 64 → 16 * getD (now outs) y 0 + 16 ≤ 16672) ⌝ }
+    requires { ⌜ (trial .inputs ≤ 64) × (trial .cells ≤ 1024) × (trial .pins ≤ 4096) × (trial .outputs ≤ 64) × (trial .outputs ≤ trial .pins) ⌝ }
+    requires { ⌜ (trial .chunk < 4096) × (length (outsOf group) ≡ 64) × (length (now goods) ≡ 16672) × ((y : ℕ) → y < 64 → 16 * getD (outsOf group) y 0 + 16 ≤ 16672) ⌝ }
     requires { ⌜ Long (now left) (now best) (now pat) ⌝ }
-    ensures { λ _. ⌜ Went (Between (2 * (i + c + n - o)) (2 * (i + c + n))) (OutStep i c o n q g (now (outs .entry)) (now (goods .entry))) (now (left .entry)) (now (best .entry)) (now (pat .entry)) (now (left .exit)) (now (best .exit)) (now (pat .exit)) ⌝ }
+    ensures { λ _. ⌜ Went (Between (2 * (trial .inputs + trial .cells + trial .pins - trial .outputs)) (2 * (trial .inputs + trial .cells + trial .pins))) (OutStep (trial .inputs) (trial .cells) (trial .outputs) (trial .pins) (trial .chunk) (trial .at) (outsOf (group .entry)) (now (goods .entry))) (now (left .entry)) (now (best .entry)) (now (pat .entry)) (now (left .exit)) (now (best .exit)) (now (pat .exit)) ⌝ }
 {
+    let i = trial.inputs;
+    let c = trial.cells;
+    let o = trial.outputs;
+    let n = trial.pins;
+    let outs = group[OUT];
     let first = 2 * (i + c + n - o);
     for e in 0..2 * o {
         try_out(
             first + e,
             e / 2,
             (e % 2) as u16,
-            q,
-            g,
+            trial.chunk,
+            trial.at,
             outs,
             goods,
             left,
@@ -80,14 +93,14 @@ fn set_one(
     k: usize,
     x: usize,
     u: u64,
-    acc: &[u64],
+    acc: &[u64; ROW],
     list: &[u16],
     input: &[u8],
-    reach: &[u64],
+    reach: &[u64; CELLS],
     heads: &[u16],
     readers: &[u16],
-    vals: &mut [u64],
-    marks: &mut [u64],
+    vals: &mut [u64; WORDS],
+    marks: &mut [u64; MARKS],
 )
     requires { ⌜ (k < 16) × (length (now acc) ≡ 16) × (length (now vals) ≡ 16672) × (length (now marks) ≡ 16) ⌝ }
     requires { ⌜ (k < length (now list)) × (getD (now list) k 0 < length (now input)) × (getD (now list) k 0 + 1 < length (now heads)) × (getD (now heads) (getD (now list) k 0) 0 ≤ getD (now heads) (getD (now list) k 0 + 1) 0) × (getD (now heads) (getD (now list) k 0 + 1) 0 ≤ length (now readers)) ⌝ }
@@ -103,36 +116,33 @@ fn set_one(
 }
 
 // Puts words into the variables of input x, and marks their readers.
-fn set_input(
+fn set_input<'a, 'b>(
     x: usize,
-    c: usize,
-    w: usize,
-    u: u64,
-    kinds: &[u8],
-    counts: &[u8],
-    firsts: &[u16],
-    src: &[u16],
-    order: &[u16],
-    reach: &[u64],
-    heads: &[u16],
-    readers: &[u16],
-    acc: &[u64],
-    list: &[u16],
-    input: &[u8],
-    vals: &mut [u64],
-    marks: &mut [u64],
+    trial: Trial,
+    bytes: [&'a [u8]; 3],
+    tables: [&'a [u16]; 5],
+    group: [&'b [u16]; 3],
+    reach: &[u64; CELLS],
+    acc: &[u64; ROW],
+    vals: &mut [u64; WORDS],
+    marks: &mut [u64; MARKS],
 )
-    requires { ⌜ Chip c (now kinds) (now counts) (now firsts) (now src) (now order) (now reach) (now heads) (now readers) ⌝ }
-    requires { ⌜ VariableReaders c w (now counts) (now firsts) (now src) (now order) (now heads) (now readers) (now list) (now input) ⌝ }
+    requires { ⌜ Chip (trial .cells) (kindsOf bytes) (countsOf bytes) (firstsOf tables) (slotsOf group) (orderOf tables) (now reach) (headsOf tables) (readersOf tables) ⌝ }
+    requires { ⌜ VariableReaders (trial .cells) (trial .width) (countsOf bytes) (firstsOf tables) (slotsOf group) (orderOf tables) (headsOf tables) (readersOf tables) (variablesOf group) (inputsOf bytes) ⌝ }
     requires { ⌜ (length (now acc) ≡ 16) × (length (now vals) ≡ 16672) × (length (now marks) ≡ 16) ⌝ }
-    ensures { λ _. ⌜ VarsPut w x (now (list .entry)) (now (input .entry)) (λ k j. getD (now (acc .entry)) j 0) (now (vals .entry)) (now (vals .exit)) ⌝ }
-    ensures { λ _. ⌜ VarsMarked w x u (now (list .entry)) (now (input .entry)) (now (heads .entry)) (now (readers .entry)) (now (reach .entry)) (now (marks .entry)) (now (marks .exit)) ⌝ }
+    ensures { λ _. ⌜ VarsPut (trial .width) x (variablesOf (group .entry)) (inputsOf (bytes .entry)) (λ k j. getD (now (acc .entry)) j 0) (now (vals .entry)) (now (vals .exit)) ⌝ }
+    ensures { λ _. ⌜ VarsMarked (trial .width) x (trial .at) (variablesOf (group .entry)) (inputsOf (bytes .entry)) (headsOf (tables .entry)) (readersOf (tables .entry)) (now (reach .entry)) (now (marks .entry)) (now (marks .exit)) ⌝ }
 {
+    let list = group[VARIABLE];
+    let input = bytes[INPUT];
+    let heads = tables[HEAD];
+    let readers = tables[READER];
+    let w = trial.width;
     for k in 0..w {
         set_one(
             k,
             x,
-            u,
+            trial.at,
             acc,
             list,
             input,
@@ -145,67 +155,37 @@ fn set_input(
     }
 }
 
-// Runs fault f, a stuck input, for the outputs of u.
-fn run_input(
+// Runs fault f, a stuck input.
+fn run_input<'a, 'b>(
     f: usize,
-    c: usize,
-    w: usize,
-    u: u64,
-    kinds: &[u8],
-    counts: &[u8],
-    firsts: &[u16],
-    src: &[u16],
-    order: &[u16],
-    reach: &[u64],
-    heads: &[u16],
-    readers: &[u16],
-    list: &[u16],
-    input: &[u8],
-    goods: &[u64],
-    vals: &mut [u64],
-    marks: &mut [u64],
-    changed: &mut [u64],
+    trial: Trial,
+    bytes: [&'a [u8]; 3],
+    tables: [&'a [u16]; 5],
+    group: [&'b [u16]; 3],
+    reach: &[u64; CELLS],
+    goods: &[u64; WORDS],
+    vals: &mut [u64; WORDS],
+    marks: &mut [u64; MARKS],
+    changed: &mut [u64; MARKS],
 )
-    requires { ⌜ Chip c (now kinds) (now counts) (now firsts) (now src) (now order) (now reach) (now heads) (now readers) ⌝ }
-    requires { ⌜ VariableReaders c w (now counts) (now firsts) (now src) (now order) (now heads) (now readers) (now list) (now input) ⌝ }
-    requires { ⌜ (length (now goods) ≡ 16672) × Back (now goods) (now vals) (now marks) (now changed) ⌝ }
-    requires { ⌜ Good c u (now kinds) (now counts) (now firsts) (now src) (now order) (now reach) (now goods) ⌝ }
-    ensures { λ _. ⌜ InputRan c w f u (now (kinds .entry)) (now (counts .entry)) (now (firsts .entry)) (now (src .entry)) (now (order .entry)) (now (reach .entry)) (now (list .entry)) (now (input .entry)) (now (goods .entry)) (now (vals .exit)) (now (changed .exit)) ⌝ }
+    requires { ⌜ Chip (trial .cells) (kindsOf bytes) (countsOf bytes) (firstsOf tables) (slotsOf group) (orderOf tables) (now reach) (headsOf tables) (readersOf tables) ⌝ }
+    requires { ⌜ VariableReaders (trial .cells) (trial .width) (countsOf bytes) (firstsOf tables) (slotsOf group) (orderOf tables) (headsOf tables) (readersOf tables) (variablesOf group) (inputsOf bytes) ⌝ }
+    requires { ⌜ (length (now goods) ≡ 16672) × (now vals ≡ now goods) × Clear (now marks) × Clear (now changed) ⌝ }
+    requires { ⌜ Good (trial .cells) (trial .at) (kindsOf bytes) (countsOf bytes) (firstsOf tables) (slotsOf group) (orderOf tables) (now reach) (now goods) ⌝ }
+    ensures { λ _. ⌜ InputRan (trial .cells) (trial .width) f (trial .at) (kindsOf (bytes .entry)) (countsOf (bytes .entry)) (firstsOf (tables .entry)) (slotsOf (group .entry)) (orderOf (tables .entry)) (now (reach .entry)) (variablesOf (group .entry)) (inputsOf (bytes .entry)) (now (goods .entry)) (now (vals .exit)) (now (changed .exit)) ⌝ }
     ensures { λ _. ⌜ length (now (marks .exit)) ≡ 16 ⌝ }
 {
     let mut acc = [0u64; ROW];
     rows::load(goods, 1040 + f % 2, &mut acc);
-    set_input(
-        f / 2,
-        c,
-        w,
-        u,
-        kinds,
-        counts,
-        firsts,
-        src,
-        order,
-        reach,
-        heads,
-        readers,
-        &acc,
-        list,
-        input,
-        vals,
-        marks,
-    );
+    set_input(f / 2, trial, bytes, tables, group, reach, &acc, vals, marks);
     events::run(
         0,
-        c,
-        u,
-        kinds,
-        counts,
-        firsts,
-        src,
-        order,
+        trial.cells,
+        trial.at,
+        bytes,
+        tables,
+        group[SLOT],
         reach,
-        heads,
-        readers,
         vals,
         marks,
         changed,
@@ -213,7 +193,14 @@ fn run_input(
 }
 
 // Puts the good words back into variable k, if it is of input x.
-fn free_one(k: usize, x: usize, list: &[u16], input: &[u8], goods: &[u64], vals: &mut [u64])
+fn free_one(
+    k: usize,
+    x: usize,
+    list: &[u16],
+    input: &[u8],
+    goods: &[u64; WORDS],
+    vals: &mut [u64; WORDS],
+)
     requires { ⌜ (k < 16) × (length (now goods) ≡ 16672) × (length (now vals) ≡ 16672) ⌝ }
     requires { ⌜ (k < length (now list)) × (getD (now list) k 0 < length (now input)) ⌝ }
     ensures { λ _. ⌜ VarPut k x (now (list .entry)) (now (input .entry)) (λ k j. getD (now (goods .entry)) (16 * k + j) 0) (now (vals .entry)) (now (vals .exit)) ⌝ }
@@ -224,7 +211,14 @@ fn free_one(k: usize, x: usize, list: &[u16], input: &[u8], goods: &[u64], vals:
 }
 
 // Puts the good words back into the variables of input x.
-fn free_input(x: usize, w: usize, list: &[u16], input: &[u8], goods: &[u64], vals: &mut [u64])
+fn free_input(
+    x: usize,
+    w: usize,
+    list: &[u16],
+    input: &[u8],
+    goods: &[u64; WORDS],
+    vals: &mut [u64; WORDS],
+)
     requires { ⌜ (w ≤ 16) × (length (now goods) ≡ 16672) × (length (now vals) ≡ 16672) ⌝ }
     requires { ⌜ (w ≤ length (now list)) × ((k : ℕ) → k < w → getD (now list) k 0 < length (now input)) ⌝ }
     ensures { λ _. ⌜ VarsPut w x (now (list .entry)) (now (input .entry)) (λ k j. getD (now (goods .entry)) (16 * k + j) 0) (now (vals .entry)) (now (vals .exit)) ⌝ }
@@ -234,124 +228,101 @@ fn free_input(x: usize, w: usize, list: &[u16], input: &[u8], goods: &[u64], val
     }
 }
 
-// Runs fault f, a stuck input, looks for it at the outputs of u, and puts all back.
-fn look_input(
+// Runs fault f, a stuck input, looks for it, and puts the good words back.
+fn look_input<'a, 'b>(
     f: usize,
-    c: usize,
-    w: usize,
-    q: usize,
-    u: u64,
-    kinds: &[u8],
-    counts: &[u8],
-    firsts: &[u16],
-    src: &[u16],
-    order: &[u16],
-    reach: &[u64],
-    heads: &[u16],
-    readers: &[u16],
-    outs: &[u16],
-    list: &[u16],
-    input: &[u8],
-    goods: &[u64],
-    vals: &mut [u64],
-    marks: &mut [u64],
-    changed: &mut [u64],
-    left: &mut [u64],
-    best: &mut [u8],
-    pat: &mut [u32],
+    trial: Trial,
+    bytes: [&'a [u8]; 3],
+    tables: [&'a [u16]; 5],
+    group: [&'b [u16]; 3],
+    reach: &[u64; CELLS],
+    goods: &[u64; WORDS],
+    vals: &mut [u64; WORDS],
+    left: &mut [u64; FAULTS],
+    best: &mut [u8; FAULTS],
+    pat: &mut [u32; FAULTS],
 )
-    requires { ⌜ Chip c (now kinds) (now counts) (now firsts) (now src) (now order) (now reach) (now heads) (now readers) ⌝ }
-    requires { ⌜ VariableReaders c w (now counts) (now firsts) (now src) (now order) (now heads) (now readers) (now list) (now input) ⌝ }
-    requires { ⌜ (length (now goods) ≡ 16672) × Back (now goods) (now vals) (now marks) (now changed) ⌝ }
-    requires { ⌜ Good c u (now kinds) (now counts) (now firsts) (now src) (now order) (now reach) (now goods) ⌝ }
-    requires { ⌜ (q < 4096) × (f < 10368) × (length (now outs) ≡ 64) × ((z : ℕ) → z < 64 → 16 * getD (now outs) z 0 + 16 ≤ 16672) ⌝ }
+    requires { ⌜ Chip (trial .cells) (kindsOf bytes) (countsOf bytes) (firstsOf tables) (slotsOf group) (orderOf tables) (now reach) (headsOf tables) (readersOf tables) ⌝ }
+    requires { ⌜ VariableReaders (trial .cells) (trial .width) (countsOf bytes) (firstsOf tables) (slotsOf group) (orderOf tables) (headsOf tables) (readersOf tables) (variablesOf group) (inputsOf bytes) ⌝ }
+    requires { ⌜ (length (now goods) ≡ 16672) × (now vals ≡ now goods) ⌝ }
+    requires { ⌜ Good (trial .cells) (trial .at) (kindsOf bytes) (countsOf bytes) (firstsOf tables) (slotsOf group) (orderOf tables) (now reach) (now goods) ⌝ }
+    requires { ⌜ (trial .chunk < 4096) × (f < 10368) × (length (outsOf group) ≡ 64) × ((z : ℕ) → z < 64 → 16 * getD (outsOf group) z 0 + 16 ≤ 16672) ⌝ }
     requires { ⌜ Long (now left) (now best) (now pat) ⌝ }
-    ensures { λ _. ⌜ InputTried f c w q u (now (kinds .entry)) (now (counts .entry)) (now (firsts .entry)) (now (src .entry)) (now (order .entry)) (now (reach .entry)) (now (outs .entry)) (now (list .entry)) (now (input .entry)) (now (goods .entry)) (now (left .entry)) (now (best .entry)) (now (pat .entry)) (now (left .exit)) (now (best .exit)) (now (pat .exit)) ⌝ }
-    ensures { λ _. ⌜ Back (now (goods .entry)) (now (vals .exit)) (now (marks .exit)) (now (changed .exit)) ⌝ }
+    ensures { λ _. ⌜ InputTried f (trial .cells) (trial .width) (trial .chunk) (trial .at) (kindsOf (bytes .entry)) (countsOf (bytes .entry)) (firstsOf (tables .entry)) (slotsOf (group .entry)) (orderOf (tables .entry)) (now (reach .entry)) (outsOf (group .entry)) (variablesOf (group .entry)) (inputsOf (bytes .entry)) (now (goods .entry)) (now (left .entry)) (now (best .entry)) (now (pat .entry)) (now (left .exit)) (now (best .exit)) (now (pat .exit)) ⌝ }
+    ensures { λ _. ⌜ now (vals .exit) ≡ now (goods .entry) ⌝ }
 {
+    let mut marks = [0u64; MARKS];
+    let mut changed = [0u64; MARKS];
     run_input(
         f,
-        c,
-        w,
-        u,
-        kinds,
-        counts,
-        firsts,
-        src,
-        order,
+        trial,
+        bytes,
+        tables,
+        group,
         reach,
-        heads,
-        readers,
-        list,
-        input,
         goods,
         vals,
-        marks,
-        changed,
+        &mut marks,
+        &mut changed,
     );
-    known::look_all(f, q, u, outs, outs, goods, vals, left, best, pat);
-    free_input(f / 2, w, list, input, goods, vals);
-    cells::undo(c, order, goods, vals, marks, changed);
+    known::look_all(
+        f,
+        trial.chunk,
+        trial.at,
+        group[OUT],
+        group[OUT],
+        goods,
+        vals,
+        left,
+        best,
+        pat,
+    );
+    free_input(
+        f / 2,
+        trial.width,
+        group[VARIABLE],
+        bytes[INPUT],
+        goods,
+        vals,
+    );
+    events::restore(0, trial.cells, tables[ORDER], goods, &changed, vals);
 }
 
-// Tries fault f, a stuck input, at the outputs of g that are left to it.
-fn try_input(
+// Tries fault f, a stuck input, at the outputs that are left to it.
+fn try_input<'a, 'b>(
     f: usize,
-    i: usize,
-    c: usize,
-    w: usize,
-    q: usize,
-    g: u64,
-    kinds: &[u8],
-    counts: &[u8],
-    firsts: &[u16],
-    src: &[u16],
-    order: &[u16],
-    reach: &[u64],
-    heads: &[u16],
-    readers: &[u16],
-    outs: &[u16],
-    list: &[u16],
-    input: &[u8],
-    goods: &[u64],
-    vals: &mut [u64],
-    marks: &mut [u64],
-    changed: &mut [u64],
-    left: &mut [u64],
-    best: &mut [u8],
-    pat: &mut [u32],
+    trial: Trial,
+    bytes: [&'a [u8]; 3],
+    tables: [&'a [u16]; 5],
+    group: [&'b [u16]; 3],
+    reach: &[u64; CELLS],
+    goods: &[u64; WORDS],
+    vals: &mut [u64; WORDS],
+    left: &mut [u64; FAULTS],
+    best: &mut [u8; FAULTS],
+    pat: &mut [u32; FAULTS],
 )
-    requires { ⌜ Chip c (now kinds) (now counts) (now firsts) (now src) (now order) (now reach) (now heads) (now readers) ⌝ }
-    requires { ⌜ VariableReaders c w (now counts) (now firsts) (now src) (now order) (now heads) (now readers) (now list) (now input) ⌝ }
-    requires { ⌜ (i ≤ 64) × (f < 2 * i) × Back (now goods) (now vals) (now marks) (now changed) ⌝ }
-    requires { ⌜ GoodRun c q g (now kinds) (now counts) (now firsts) (now src) (now order) (now reach) (now outs) (now goods) ⌝ }
+    requires { ⌜ Chip (trial .cells) (kindsOf bytes) (countsOf bytes) (firstsOf tables) (slotsOf group) (orderOf tables) (now reach) (headsOf tables) (readersOf tables) ⌝ }
+    requires { ⌜ VariableReaders (trial .cells) (trial .width) (countsOf bytes) (firstsOf tables) (slotsOf group) (orderOf tables) (headsOf tables) (readersOf tables) (variablesOf group) (inputsOf bytes) ⌝ }
+    requires { ⌜ (trial .inputs ≤ 64) × (f < 2 * trial .inputs) × (now vals ≡ now goods) ⌝ }
+    requires { ⌜ GoodRun (trial .cells) (trial .chunk) (trial .at) (kindsOf bytes) (countsOf bytes) (firstsOf tables) (slotsOf group) (orderOf tables) (now reach) (outsOf group) (now goods) ⌝ }
     requires { ⌜ Long (now left) (now best) (now pat) ⌝ }
-    ensures { λ _. ⌜ Went (λ x. x ≡ f) (InputStep i c w q g (now (kinds .entry)) (now (counts .entry)) (now (firsts .entry)) (now (src .entry)) (now (order .entry)) (now (reach .entry)) (now (outs .entry)) (now (list .entry)) (now (input .entry)) (now (goods .entry))) (now (left .entry)) (now (best .entry)) (now (pat .entry)) (now (left .exit)) (now (best .exit)) (now (pat .exit)) ⌝ }
-    ensures { λ _. ⌜ Back (now (goods .entry)) (now (vals .exit)) (now (marks .exit)) (now (changed .exit)) ⌝ }
+    ensures { λ _. ⌜ Went (λ x. x ≡ f) (InputStep (trial .inputs) (trial .cells) (trial .width) (trial .chunk) (trial .at) (kindsOf (bytes .entry)) (countsOf (bytes .entry)) (firstsOf (tables .entry)) (slotsOf (group .entry)) (orderOf (tables .entry)) (now (reach .entry)) (outsOf (group .entry)) (variablesOf (group .entry)) (inputsOf (bytes .entry)) (now (goods .entry))) (now (left .entry)) (now (best .entry)) (now (pat .entry)) (now (left .exit)) (now (best .exit)) (now (pat .exit)) ⌝ }
+    ensures { λ _. ⌜ now (vals .exit) ≡ now (goods .entry) ⌝ }
 {
-    let u = left[f] & g;
+    let u = left[f] & trial.at;
     if u != 0 {
+        let mut t = trial;
+        t.at = u;
         look_input(
             f,
-            c,
-            w,
-            q,
-            u,
-            kinds,
-            counts,
-            firsts,
-            src,
-            order,
+            t,
+            bytes,
+            tables,
+            group,
             reach,
-            heads,
-            readers,
-            outs,
-            list,
-            input,
             goods,
             vals,
-            marks,
-            changed,
             left,
             best,
             pat,
@@ -359,63 +330,38 @@ fn try_input(
     }
 }
 
-// Tries the stuck inputs that are open at an output of g.
-pub fn try_inputs(
-    i: usize,
-    c: usize,
-    w: usize,
-    q: usize,
-    g: u64,
-    kinds: &[u8],
-    counts: &[u8],
-    firsts: &[u16],
-    src: &[u16],
-    order: &[u16],
-    reach: &[u64],
-    heads: &[u16],
-    readers: &[u16],
-    outs: &[u16],
-    list: &[u16],
-    input: &[u8],
-    goods: &[u64],
-    vals: &mut [u64],
-    marks: &mut [u64],
-    changed: &mut [u64],
-    left: &mut [u64],
-    best: &mut [u8],
-    pat: &mut [u32],
+// Tries the stuck inputs that are open at an output that is asked for.
+pub fn try_inputs<'a, 'b>(
+    trial: Trial,
+    bytes: [&'a [u8]; 3],
+    tables: [&'a [u16]; 5],
+    group: [&'b [u16]; 3],
+    reach: &[u64; CELLS],
+    goods: &[u64; WORDS],
+    vals: &mut [u64; WORDS],
+    left: &mut [u64; FAULTS],
+    best: &mut [u8; FAULTS],
+    pat: &mut [u32; FAULTS],
 )
-    requires { ⌜ Chip c (now kinds) (now counts) (now firsts) (now src) (now order) (now reach) (now heads) (now readers) ⌝ }
-    requires { ⌜ VariableReaders c w (now counts) (now firsts) (now src) (now order) (now heads) (now readers) (now list) (now input) ⌝ }
-    requires { ⌜ (i ≤ 64) × Back (now goods) (now vals) (now marks) (now changed) ⌝ }
-    requires { ⌜ GoodRun c q g (now kinds) (now counts) (now firsts) (now src) (now order) (now reach) (now outs) (now goods) ⌝ }
+    requires { ⌜ Chip (trial .cells) (kindsOf bytes) (countsOf bytes) (firstsOf tables) (slotsOf group) (orderOf tables) (now reach) (headsOf tables) (readersOf tables) ⌝ }
+    requires { ⌜ VariableReaders (trial .cells) (trial .width) (countsOf bytes) (firstsOf tables) (slotsOf group) (orderOf tables) (headsOf tables) (readersOf tables) (variablesOf group) (inputsOf bytes) ⌝ }
+    requires { ⌜ (trial .inputs ≤ 64) × (now vals ≡ now goods) ⌝ }
+    requires { ⌜ GoodRun (trial .cells) (trial .chunk) (trial .at) (kindsOf bytes) (countsOf bytes) (firstsOf tables) (slotsOf group) (orderOf tables) (now reach) (outsOf group) (now goods) ⌝ }
     requires { ⌜ Long (now left) (now best) (now pat) ⌝ }
-    ensures { λ _. ⌜ Went (λ f. f < 2 * i) (InputStep i c w q g (now (kinds .entry)) (now (counts .entry)) (now (firsts .entry)) (now (src .entry)) (now (order .entry)) (now (reach .entry)) (now (outs .entry)) (now (list .entry)) (now (input .entry)) (now (goods .entry))) (now (left .entry)) (now (best .entry)) (now (pat .entry)) (now (left .exit)) (now (best .exit)) (now (pat .exit)) ⌝ }
-    ensures { λ _. ⌜ Back (now (goods .entry)) (now (vals .exit)) (now (marks .exit)) (now (changed .exit)) ⌝ }
+    ensures { λ _. ⌜ Went (λ f. f < 2 * trial .inputs) (InputStep (trial .inputs) (trial .cells) (trial .width) (trial .chunk) (trial .at) (kindsOf (bytes .entry)) (countsOf (bytes .entry)) (firstsOf (tables .entry)) (slotsOf (group .entry)) (orderOf (tables .entry)) (now (reach .entry)) (outsOf (group .entry)) (variablesOf (group .entry)) (inputsOf (bytes .entry)) (now (goods .entry))) (now (left .entry)) (now (best .entry)) (now (pat .entry)) (now (left .exit)) (now (best .exit)) (now (pat .exit)) ⌝ }
+    ensures { λ _. ⌜ now (vals .exit) ≡ now (goods .entry) ⌝ }
 {
+    let i = trial.inputs;
     for f in 0..2 * i {
         try_input(
             f,
-            i,
-            c,
-            w,
-            q,
-            g,
-            kinds,
-            counts,
-            firsts,
-            src,
-            order,
+            trial,
+            bytes,
+            tables,
+            group,
             reach,
-            heads,
-            readers,
-            outs,
-            list,
-            input,
             goods,
             vals,
-            marks,
-            changed,
             left,
             best,
             pat,

@@ -14,6 +14,7 @@ ghost use Rattle.structure.specs.declared.Shape.{Shape};
 ghost use Rattle.slots.specs.Slots.{relOf};
 ghost use Rattle.readers.specs.Readers.{Heads};
 ghost use Rattle.stages.specs.Stage.{Watch};
+ghost use Rattle.events.specs.Lent.{netsOf, branchesOf, blocksOf};
 ghost use Rattle.benches.specs.Benches.{Blocked, BlockInputs, Fitted, BegunAt, BlockList, OutSlots, Benched};
 use chip::BLOCKS;
 use chip::Block;
@@ -22,11 +23,15 @@ use chip::Counts;
 use chip::Firsts;
 use chip::Nets;
 use chip::Order;
+use chip::PINS;
 use chip::PinWords;
 use chip::Reached;
 use chip::Sizes;
 use chip::wide;
 use chip::wide8;
+use events::BLOCK;
+use events::BRANCH;
+use events::NET;
 
 // The input of each block, by the n pins.
 fn block_inputs(i: usize, n: usize, branches: &Branches, block: &Block, input: &mut [u8])
@@ -135,15 +140,13 @@ pub fn bench(
 }
 
 // The tables of a chip of class 2 or 3. There are as many readers as pins of cells. The kinds are lent for their number.
-pub fn chip_tables(
+pub fn chip_tables<'a>(
     z: Sizes,
     kinds: &[u8],
     counts: &Counts,
     firsts: &Firsts,
-    nets: &Nets,
     order: &Order,
-    branches: &Branches,
-    block: &Block,
+    pins: [&'a [u16; PINS]; 3],
     cone: &PinWords,
     reach: &mut [u64],
     heads: &mut [u16],
@@ -151,11 +154,11 @@ pub fn chip_tables(
     input: &mut [u8],
 )
     requires { ⌜ ((s : Shape) × (reached : List ℕ) × (s .class ≢ 1)
-        × Ready (sized z (now kinds) (now counts) (now nets)) (z .pins) s (now firsts) (now order) (now branches) (now block) reached) ⌝ }
+        × Ready (sized z (now kinds) (now counts) (netsOf pins)) (z .pins) s (now firsts) (now order) (branchesOf pins) (blocksOf pins) reached) ⌝ }
     requires { ⌜ (length (now kinds) ≡ 1024) × (length (now reach) ≡ 1024) × (length (now input) ≡ 4160) ⌝ }
     requires { ⌜ (length (now heads) ≡ 5185) × ((x : ℕ) → getD (now heads) x 0 ≡ 0) ⌝ }
     requires { ⌜ (length (now readers) ≡ z .pins - z .outputs) × ((x : ℕ) → getD (now readers) x 0 ≡ 0) ⌝ }
-    ensures { λ _. ⌜ Fitted (z .inputs) (z .cells) (z .outputs) (z .pins) (now (kinds .entry)) (now (counts .entry)) (now (firsts .entry)) (now (nets .entry)) (now (order .entry)) (now (branches .entry)) (now (block .entry)) (now (cone .entry)) (now (reach .exit)) (now (heads .exit)) (now (readers .exit)) (now (input .exit)) ⌝ }
+    ensures { λ _. ⌜ Fitted (z .inputs) (z .cells) (z .outputs) (z .pins) (now (kinds .entry)) (now (counts .entry)) (now (firsts .entry)) (netsOf (pins .entry)) (now (order .entry)) (branchesOf (pins .entry)) (blocksOf (pins .entry)) (now (cone .entry)) (now (reach .exit)) (now (heads .exit)) (now (readers .exit)) (now (input .exit)) ⌝ }
 {
     let o = z.outputs;
     let n = z.pins;
@@ -166,12 +169,12 @@ pub fn chip_tables(
         n - o,
         counts,
         firsts,
-        branches,
-        nets,
+        pins[BRANCH],
+        pins[NET],
         order,
-        block,
+        pins[BLOCK],
         heads,
         readers,
     );
-    block_inputs(z.inputs, n, branches, block, input);
+    block_inputs(z.inputs, n, pins[BRANCH], pins[BLOCK], input);
 }

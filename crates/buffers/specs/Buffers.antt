@@ -1,10 +1,10 @@
 -- The faults in pad buffers, each a run of its own, in the chunks from q on, at the outputs of a group g.
-use Prim.Native.Nat.{ℕ, _+_, _-_, _/_, _<_}
+use Prim.Native.Nat.{ℕ, _+_, _-_, _/_, _≤_, _<_}
 use mathlib.Core.Path.{_≡_}
 use mathlib.Core.Logic.{_⊎_}
 use mathlib.Core.Bool.{Bool}
 use mathlib.Core.List.{List}
-use lib.ListN.{getD}
+use lib.ListN.{length, getD}
 use Rattle.chip.specs.Netlist.{outPin, allPins}
 use Rattle.chip.specs.Inner.Limits.{InLimits}
 use Rattle.chip.specs.Inner.Tables.{tabled, FirstPins, BranchTable}
@@ -24,6 +24,7 @@ pub record Tables (i c o n q g : ℕ) (kinds counts firsts nets order branches r
   pub first-pins : FirstPins (tabled i c o kinds counts nets) firsts
   pub ordered : Ordered (tabled i c o kinds counts nets) order
   pub branched : BranchTable (tabled i c o kinds counts nets) branches
+  pub slots-long : n ≤ length src
   pub chip : (heads readers : List ℕ) × Chip c kinds counts firsts src order reach heads readers
   pub ready : GoodRun c q g kinds counts firsts src order reach outs goods
   pub outs-are : (z : ℕ) → z < o → getD outs z 0 ≡ getD src (outPin (tabled i c o kinds counts nets) z) 0

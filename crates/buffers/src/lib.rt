@@ -1,5 +1,5 @@
-// The faults in pad buffers, each a run of its own, in the chunks from q on, at the outputs of a group g.
-// Fault 2 * site + v: the nets of i inputs and c cells are the first sites, then come the n pins, the last ones those of the o outputs.
+// The faults in pad buffers, each a run of its own.
+// Fault 2 * site + v: the nets of inputs and cells are the first sites, then come the pins, the last ones those of the outputs.
 ghost use mathlib.Core.Path.{_≡_};
 ghost use mathlib.Core.List.{List};
 ghost use Prim.Native.Nat.{ℕ, _+_, _-_, _*_, _/_, _≤_, _<_};
@@ -9,157 +9,152 @@ ghost use Rattle.chip.specs.Inner.Limits.{InLimits};
 ghost use Rattle.chip.specs.Inner.Tables.{tabled, FirstPins, BranchTable};
 ghost use Rattle.order.specs.Order.{Ordered};
 ghost use Rattle.events.specs.Events.{Chip};
+ghost use Rattle.events.specs.Lent.{kindsOf, countsOf, firstsOf, orderOf, sourcesOf, netsOf, branchesOf, slotsOf, outsOf};
 ghost use Rattle.known.specs.Setting.{Long, Went};
 ghost use Rattle.buffers.specs.Buffers.{Tables, Faulty, FaultRan, FaultStep, BufferFault, PadFault};
-use chip::Branches;
-use chip::Counts;
-use chip::Firsts;
-use chip::Kinds;
-use chip::Nets;
+use chip::CELLS;
+use chip::FAULTS;
 use chip::OUTPUTS;
-use chip::Order;
 use chip::PINS;
 use chip::wide;
+use events::BRANCH;
+use events::COUNT;
+use events::FIRST;
+use events::KIND;
+use events::NET;
+use events::ORDER;
+use events::OUT;
+use events::SLOT;
+use events::SOURCE;
+use events::Trial;
+use rows::WORDS;
 
-// The slots of the n pins under fault f.
-fn faulty_slots(
-    i: usize,
-    c: usize,
-    o: usize,
-    n: usize,
+// The slots of the pins under fault f.
+fn faulty_slots<'a, 'c>(
     f: usize,
-    kinds: &Kinds,
-    counts: &Counts,
-    firsts: &Firsts,
-    nets: &Nets,
-    order: &Order,
-    branches: &Branches,
-    src: &Nets,
-    faulty: &mut [u16],
+    trial: Trial,
+    bytes: [&'a [u8]; 3],
+    tables: [&'a [u16]; 5],
+    pins: [&'c [u16; PINS]; 3],
+    src: &[u16],
+    faulty: &mut [u16; PINS],
 )
-    requires { ⌜ InLimits (tabled i c o (now kinds) (now counts) (now nets)) ⌝ }
-    requires { ⌜ n ≡ allPins (tabled i c o (now kinds) (now counts) (now nets)) ⌝ }
-    requires { ⌜ FirstPins (tabled i c o (now kinds) (now counts) (now nets)) (now firsts) ⌝ }
-    requires { ⌜ Ordered (tabled i c o (now kinds) (now counts) (now nets)) (now order) ⌝ }
-    requires { ⌜ BranchTable (tabled i c o (now kinds) (now counts) (now nets)) (now branches) ⌝ }
-    requires { ⌜ length (now faulty) ≡ 4096 ⌝ }
-    ensures { λ _. ⌜ Faulty i c o n f (now (kinds .entry)) (now (counts .entry)) (now (nets .entry)) (now (src .entry)) (now (faulty .exit)) ⌝ }
+    requires { ⌜ InLimits (tabled (trial .inputs) (trial .cells) (trial .outputs) (kindsOf bytes) (countsOf bytes) (netsOf pins)) ⌝ }
+    requires { ⌜ trial .pins ≡ allPins (tabled (trial .inputs) (trial .cells) (trial .outputs) (kindsOf bytes) (countsOf bytes) (netsOf pins)) ⌝ }
+    requires { ⌜ FirstPins (tabled (trial .inputs) (trial .cells) (trial .outputs) (kindsOf bytes) (countsOf bytes) (netsOf pins)) (firstsOf tables) ⌝ }
+    requires { ⌜ Ordered (tabled (trial .inputs) (trial .cells) (trial .outputs) (kindsOf bytes) (countsOf bytes) (netsOf pins)) (orderOf tables) ⌝ }
+    requires { ⌜ BranchTable (tabled (trial .inputs) (trial .cells) (trial .outputs) (kindsOf bytes) (countsOf bytes) (netsOf pins)) (branchesOf pins) ⌝ }
+    requires { ⌜ (length (now faulty) ≡ 4096) × (trial .pins ≤ length (now src)) ⌝ }
+    requires { ⌜ (trial .cells ≤ length (orderOf tables)) × ((t : ℕ) → t < trial .cells → (getD (orderOf tables) t 0 < length (kindsOf bytes)) × (getD (orderOf tables) t 0 < length (firstsOf tables))) ⌝ }
+    ensures { λ _. ⌜ Faulty (trial .inputs) (trial .cells) (trial .outputs) (trial .pins) f (kindsOf (bytes .entry)) (countsOf (bytes .entry)) (netsOf (pins .entry)) (now (src .entry)) (now (faulty .exit)) ⌝ }
 {
+    let i = trial.inputs;
+    let c = trial.cells;
     let mut decided = [2u8; PINS];
     faults::decided(
         i,
         c,
-        o,
-        n,
-        kinds,
-        counts,
-        firsts,
-        nets,
-        order,
-        branches,
+        trial.outputs,
+        trial.pins,
+        bytes[KIND],
+        bytes[COUNT],
+        tables[FIRST],
+        pins[NET],
+        tables[ORDER],
+        pins[BRANCH],
         faults::fault_at(i + c, f),
         &mut decided,
     );
-    slots::fault_slots(n, &decided, src, faulty);
+    slots::fault_slots(trial.pins, &decided, src, faulty);
 }
 
-// Works out the cells that reach an output of u on the slots of fault f, looks for it there, and puts the good words back.
-fn run_fault(
-    c: usize,
-    o: usize,
-    n: usize,
+// Works out the cells that reach an output that is asked for on the slots of fault f, looks for it there, and puts the good words back.
+fn run_fault<'a, 'b>(
     f: usize,
-    q: usize,
-    u: u64,
-    kinds: &Kinds,
-    counts: &Counts,
-    firsts: &Firsts,
-    order: &Order,
-    reach: &[u64],
-    faulty: &[u16],
-    outs: &[u16],
-    goods: &[u64],
-    vals: &mut [u64],
-    left: &mut [u64],
-    best: &mut [u8],
-    pat: &mut [u32],
+    trial: Trial,
+    bytes: [&'a [u8]; 3],
+    tables: [&'a [u16]; 5],
+    group: [&'b [u16]; 3],
+    reach: &[u64; CELLS],
+    faulty: &[u16; PINS],
+    goods: &[u64; WORDS],
+    vals: &mut [u64; WORDS],
+    left: &mut [u64; FAULTS],
+    best: &mut [u8; FAULTS],
+    pat: &mut [u32; FAULTS],
 )
-    requires { ⌜ ((heads readers : List ℕ) × Chip c (now kinds) (now counts) (now firsts) (now faulty) (now order) (now reach) heads readers) ⌝ }
-    requires { ⌜ (o ≤ 64) × (o ≤ n) × (n ≤ length (now faulty)) × ((z : ℕ) → z < o → 16 * getD (now faulty) (n - o + z) 0 + 16 ≤ 16672) ⌝ }
-    requires { ⌜ (q < 4096) × (f < 10368) × (length (now outs) ≡ 64) × (length (now goods) ≡ 16672) × ((z : ℕ) → z < 64 → 16 * getD (now outs) z 0 + 16 ≤ 16672) ⌝ }
+    requires { ⌜ ((heads readers : List ℕ) × Chip (trial .cells) (kindsOf bytes) (countsOf bytes) (firstsOf tables) (now faulty) (orderOf tables) (now reach) heads readers) ⌝ }
+    requires { ⌜ (trial .outputs ≤ 64) × (trial .outputs ≤ trial .pins) × (trial .pins ≤ length (now faulty)) × ((z : ℕ) → z < (trial .outputs) → 16 * getD (now faulty) (trial .pins - trial .outputs + z) 0 + 16 ≤ 16672) ⌝ }
+    requires { ⌜ (trial .chunk < 4096) × (f < 10368) × (length (outsOf group) ≡ 64) × (length (now goods) ≡ 16672) × ((z : ℕ) → z < 64 → 16 * getD (outsOf group) z 0 + 16 ≤ 16672) ⌝ }
     requires { ⌜ (now vals ≡ now goods) × Long (now left) (now best) (now pat) ⌝ }
-    ensures { λ _. ⌜ FaultRan c o n f q u (now (kinds .entry)) (now (counts .entry)) (now (firsts .entry)) (now (faulty .entry)) (now (order .entry)) (now (reach .entry)) (now (outs .entry)) (now (goods .entry)) (now (left .entry)) (now (best .entry)) (now (pat .entry)) (now (left .exit)) (now (best .exit)) (now (pat .exit)) ⌝ }
+    ensures { λ _. ⌜ FaultRan (trial .cells) (trial .outputs) (trial .pins) f (trial .chunk) (trial .at) (kindsOf (bytes .entry)) (countsOf (bytes .entry)) (firstsOf (tables .entry)) (now (faulty .entry)) (orderOf (tables .entry)) (now (reach .entry)) (outsOf (group .entry)) (now (goods .entry)) (now (left .entry)) (now (best .entry)) (now (pat .entry)) (now (left .exit)) (now (best .exit)) (now (pat .exit)) ⌝ }
     ensures { λ _. ⌜ now (vals .exit) ≡ now (goods .entry) ⌝ }
 {
+    let o = trial.outputs;
+    let n = trial.pins;
     let mut ends = [0u16; OUTPUTS];
     homes::copy_pins(n - o, o, faulty, &mut ends);
-    events::good_cells(c, u, kinds, counts, firsts, faulty, order, reach, vals);
-    known::look_all(f, q, u, outs, &ends, goods, vals, left, best, pat);
+    events::good_cells(
+        trial.cells,
+        trial.at,
+        bytes[KIND],
+        bytes[COUNT],
+        tables[FIRST],
+        faulty,
+        tables[ORDER],
+        reach,
+        vals,
+    );
+    known::look_all(
+        f,
+        trial.chunk,
+        trial.at,
+        group[OUT],
+        &ends,
+        goods,
+        vals,
+        left,
+        best,
+        pat,
+    );
     events::copy_words(16672, goods, vals);
 }
 
-// Tries fault f if it is open at an output of g.
-fn try_fault(
-    i: usize,
-    c: usize,
-    o: usize,
-    n: usize,
+// Tries fault f if it is open at an output that is asked for.
+fn try_fault<'a, 'b, 'c>(
     f: usize,
-    q: usize,
-    g: u64,
-    kinds: &Kinds,
-    counts: &Counts,
-    firsts: &Firsts,
-    nets: &Nets,
-    order: &Order,
-    branches: &Branches,
-    reach: &[u64],
-    src: &Nets,
-    outs: &[u16],
-    goods: &[u64],
-    vals: &mut [u64],
-    left: &mut [u64],
-    best: &mut [u8],
-    pat: &mut [u32],
+    trial: Trial,
+    bytes: [&'a [u8]; 3],
+    tables: [&'a [u16]; 5],
+    pins: [&'c [u16; PINS]; 3],
+    group: [&'b [u16]; 3],
+    reach: &[u64; CELLS],
+    goods: &[u64; WORDS],
+    vals: &mut [u64; WORDS],
+    left: &mut [u64; FAULTS],
+    best: &mut [u8; FAULTS],
+    pat: &mut [u32; FAULTS],
 )
-    requires { ⌜ f / 2 < i + c + n ⌝ }
-    requires { ⌜ Tables i c o n q g (now kinds) (now counts) (now firsts) (now nets) (now order) (now branches) (now reach) (now src) (now outs) (now goods) ⌝ }
+    requires { ⌜ f / 2 < trial .inputs + trial .cells + trial .pins ⌝ }
+    requires { ⌜ Tables (trial .inputs) (trial .cells) (trial .outputs) (trial .pins) (trial .chunk) (trial .at) (kindsOf bytes) (countsOf bytes) (firstsOf tables) (netsOf pins) (orderOf tables) (branchesOf pins) (now reach) (slotsOf group) (outsOf group) (now goods) ⌝ }
     requires { ⌜ (now vals ≡ now goods) × Long (now left) (now best) (now pat) ⌝ }
-    ensures { λ _. ⌜ Went (λ x. x ≡ f) (FaultStep i c o q g (now (kinds .entry)) (now (counts .entry)) (now (firsts .entry)) (now (nets .entry)) (now (order .entry)) (now (reach .entry)) (now (src .entry)) (now (outs .entry)) (now (goods .entry))) (now (left .entry)) (now (best .entry)) (now (pat .entry)) (now (left .exit)) (now (best .exit)) (now (pat .exit)) ⌝ }
+    ensures { λ _. ⌜ Went (λ x. x ≡ f) (FaultStep (trial .inputs) (trial .cells) (trial .outputs) (trial .chunk) (trial .at) (kindsOf (bytes .entry)) (countsOf (bytes .entry)) (firstsOf (tables .entry)) (netsOf (pins .entry)) (orderOf (tables .entry)) (now (reach .entry)) (slotsOf (group .entry)) (outsOf (group .entry)) (now (goods .entry))) (now (left .entry)) (now (best .entry)) (now (pat .entry)) (now (left .exit)) (now (best .exit)) (now (pat .exit)) ⌝ }
     ensures { λ _. ⌜ now (vals .exit) ≡ now (goods .entry) ⌝ }
 {
-    let u = left[f] & g;
+    let u = left[f] & trial.at;
     if u != 0 {
         let mut faulty = [0u16; PINS];
-        faulty_slots(
-            i,
-            c,
-            o,
-            n,
-            f,
-            kinds,
-            counts,
-            firsts,
-            nets,
-            order,
-            branches,
-            src,
-            &mut faulty,
-        );
+        faulty_slots(f, trial, bytes, tables, pins, group[SLOT], &mut faulty);
+        let mut t = trial;
+        t.at = u;
         run_fault(
-            c,
-            o,
-            n,
             f,
-            q,
-            u,
-            kinds,
-            counts,
-            firsts,
-            order,
+            t,
+            bytes,
+            tables,
+            group,
             reach,
             &faulty,
-            outs,
             goods,
             vals,
             left,
@@ -170,52 +165,34 @@ fn try_fault(
 }
 
 // Tries the two faults of a site.
-fn try_site(
-    i: usize,
-    c: usize,
-    o: usize,
-    n: usize,
+fn try_site<'a, 'b, 'c>(
     s: usize,
-    q: usize,
-    g: u64,
-    kinds: &Kinds,
-    counts: &Counts,
-    firsts: &Firsts,
-    nets: &Nets,
-    order: &Order,
-    branches: &Branches,
-    reach: &[u64],
-    src: &Nets,
-    outs: &[u16],
-    goods: &[u64],
-    vals: &mut [u64],
-    left: &mut [u64],
-    best: &mut [u8],
-    pat: &mut [u32],
+    trial: Trial,
+    bytes: [&'a [u8]; 3],
+    tables: [&'a [u16]; 5],
+    pins: [&'c [u16; PINS]; 3],
+    group: [&'b [u16]; 3],
+    reach: &[u64; CELLS],
+    goods: &[u64; WORDS],
+    vals: &mut [u64; WORDS],
+    left: &mut [u64; FAULTS],
+    best: &mut [u8; FAULTS],
+    pat: &mut [u32; FAULTS],
 )
-    requires { ⌜ s < i + c + n ⌝ }
-    requires { ⌜ Tables i c o n q g (now kinds) (now counts) (now firsts) (now nets) (now order) (now branches) (now reach) (now src) (now outs) (now goods) ⌝ }
+    requires { ⌜ s < trial .inputs + trial .cells + trial .pins ⌝ }
+    requires { ⌜ Tables (trial .inputs) (trial .cells) (trial .outputs) (trial .pins) (trial .chunk) (trial .at) (kindsOf bytes) (countsOf bytes) (firstsOf tables) (netsOf pins) (orderOf tables) (branchesOf pins) (now reach) (slotsOf group) (outsOf group) (now goods) ⌝ }
     requires { ⌜ (now vals ≡ now goods) × Long (now left) (now best) (now pat) ⌝ }
-    ensures { λ _. ⌜ Went (λ x. x / 2 ≡ s) (FaultStep i c o q g (now (kinds .entry)) (now (counts .entry)) (now (firsts .entry)) (now (nets .entry)) (now (order .entry)) (now (reach .entry)) (now (src .entry)) (now (outs .entry)) (now (goods .entry))) (now (left .entry)) (now (best .entry)) (now (pat .entry)) (now (left .exit)) (now (best .exit)) (now (pat .exit)) ⌝ }
+    ensures { λ _. ⌜ Went (λ x. x / 2 ≡ s) (FaultStep (trial .inputs) (trial .cells) (trial .outputs) (trial .chunk) (trial .at) (kindsOf (bytes .entry)) (countsOf (bytes .entry)) (firstsOf (tables .entry)) (netsOf (pins .entry)) (orderOf (tables .entry)) (now (reach .entry)) (slotsOf (group .entry)) (outsOf (group .entry)) (now (goods .entry))) (now (left .entry)) (now (best .entry)) (now (pat .entry)) (now (left .exit)) (now (best .exit)) (now (pat .exit)) ⌝ }
     ensures { λ _. ⌜ now (vals .exit) ≡ now (goods .entry) ⌝ }
 {
     try_fault(
-        i,
-        c,
-        o,
-        n,
         2 * s,
-        q,
-        g,
-        kinds,
-        counts,
-        firsts,
-        nets,
-        order,
-        branches,
+        trial,
+        bytes,
+        tables,
+        pins,
+        group,
         reach,
-        src,
-        outs,
         goods,
         vals,
         left,
@@ -223,22 +200,13 @@ fn try_site(
         pat,
     );
     try_fault(
-        i,
-        c,
-        o,
-        n,
         2 * s + 1,
-        q,
-        g,
-        kinds,
-        counts,
-        firsts,
-        nets,
-        order,
-        branches,
+        trial,
+        bytes,
+        tables,
+        pins,
+        group,
         reach,
-        src,
-        outs,
         goods,
         vals,
         left,
@@ -248,52 +216,37 @@ fn try_site(
 }
 
 // Tries the faults of the net and of the first pin of cell j.
-fn try_pad(
-    i: usize,
-    c: usize,
-    o: usize,
-    n: usize,
+fn try_pad<'a, 'b, 'c>(
     j: usize,
-    q: usize,
-    g: u64,
-    kinds: &Kinds,
-    counts: &Counts,
-    firsts: &Firsts,
-    nets: &Nets,
-    order: &Order,
-    branches: &Branches,
-    reach: &[u64],
-    src: &Nets,
-    outs: &[u16],
-    goods: &[u64],
-    vals: &mut [u64],
-    left: &mut [u64],
-    best: &mut [u8],
-    pat: &mut [u32],
+    trial: Trial,
+    bytes: [&'a [u8]; 3],
+    tables: [&'a [u16]; 5],
+    pins: [&'c [u16; PINS]; 3],
+    group: [&'b [u16]; 3],
+    reach: &[u64; CELLS],
+    goods: &[u64; WORDS],
+    vals: &mut [u64; WORDS],
+    left: &mut [u64; FAULTS],
+    best: &mut [u8; FAULTS],
+    pat: &mut [u32; FAULTS],
 )
-    requires { ⌜ j < c ⌝ }
-    requires { ⌜ Tables i c o n q g (now kinds) (now counts) (now firsts) (now nets) (now order) (now branches) (now reach) (now src) (now outs) (now goods) ⌝ }
+    requires { ⌜ j < trial .cells ⌝ }
+    requires { ⌜ Tables (trial .inputs) (trial .cells) (trial .outputs) (trial .pins) (trial .chunk) (trial .at) (kindsOf bytes) (countsOf bytes) (firstsOf tables) (netsOf pins) (orderOf tables) (branchesOf pins) (now reach) (slotsOf group) (outsOf group) (now goods) ⌝ }
     requires { ⌜ (now vals ≡ now goods) × Long (now left) (now best) (now pat) ⌝ }
-    ensures { λ _. ⌜ Went (BufferFault i c (now (firsts .entry)) j) (FaultStep i c o q g (now (kinds .entry)) (now (counts .entry)) (now (firsts .entry)) (now (nets .entry)) (now (order .entry)) (now (reach .entry)) (now (src .entry)) (now (outs .entry)) (now (goods .entry))) (now (left .entry)) (now (best .entry)) (now (pat .entry)) (now (left .exit)) (now (best .exit)) (now (pat .exit)) ⌝ }
+    ensures { λ _. ⌜ Went (BufferFault (trial .inputs) (trial .cells) (firstsOf (tables .entry)) j) (FaultStep (trial .inputs) (trial .cells) (trial .outputs) (trial .chunk) (trial .at) (kindsOf (bytes .entry)) (countsOf (bytes .entry)) (firstsOf (tables .entry)) (netsOf (pins .entry)) (orderOf (tables .entry)) (now (reach .entry)) (slotsOf (group .entry)) (outsOf (group .entry)) (now (goods .entry))) (now (left .entry)) (now (best .entry)) (now (pat .entry)) (now (left .exit)) (now (best .exit)) (now (pat .exit)) ⌝ }
     ensures { λ _. ⌜ now (vals .exit) ≡ now (goods .entry) ⌝ }
 {
+    let i = trial.inputs;
+    let c = trial.cells;
+    let firsts = tables[FIRST];
     try_site(
-        i,
-        c,
-        o,
-        n,
         i + j,
-        q,
-        g,
-        kinds,
-        counts,
-        firsts,
-        nets,
-        order,
-        branches,
+        trial,
+        bytes,
+        tables,
+        pins,
+        group,
         reach,
-        src,
-        outs,
         goods,
         vals,
         left,
@@ -301,22 +254,13 @@ fn try_pad(
         pat,
     );
     try_site(
-        i,
-        c,
-        o,
-        n,
         i + c + wide(firsts[j]),
-        q,
-        g,
-        kinds,
-        counts,
-        firsts,
-        nets,
-        order,
-        branches,
+        trial,
+        bytes,
+        tables,
+        pins,
+        group,
         reach,
-        src,
-        outs,
         goods,
         vals,
         left,
@@ -325,55 +269,39 @@ fn try_pad(
     );
 }
 
-// Tries the faults of all pad buffers, the cells whose net has one of the i inputs as its source.
-pub fn try_pads(
-    i: usize,
-    c: usize,
-    o: usize,
-    n: usize,
-    q: usize,
-    g: u64,
-    kinds: &Kinds,
-    counts: &Counts,
-    firsts: &Firsts,
-    nets: &Nets,
-    order: &Order,
-    branches: &Branches,
-    sources: &[u16],
-    reach: &[u64],
-    src: &Nets,
-    outs: &[u16],
-    goods: &[u64],
-    vals: &mut [u64],
-    left: &mut [u64],
-    best: &mut [u8],
-    pat: &mut [u32],
+// Tries the faults of all pad buffers, the cells whose net has an input as its source.
+pub fn try_pads<'a, 'b, 'c>(
+    trial: Trial,
+    bytes: [&'a [u8]; 3],
+    tables: [&'a [u16]; 5],
+    pins: [&'c [u16; PINS]; 3],
+    group: [&'b [u16]; 3],
+    reach: &[u64; CELLS],
+    goods: &[u64; WORDS],
+    vals: &mut [u64; WORDS],
+    left: &mut [u64; FAULTS],
+    best: &mut [u8; FAULTS],
+    pat: &mut [u32; FAULTS],
 )
-    requires { ⌜ length (now sources) ≡ 1088 ⌝ }
-    requires { ⌜ Tables i c o n q g (now kinds) (now counts) (now firsts) (now nets) (now order) (now branches) (now reach) (now src) (now outs) (now goods) ⌝ }
+    requires { ⌜ length (sourcesOf tables) ≡ 1088 ⌝ }
+    requires { ⌜ Tables (trial .inputs) (trial .cells) (trial .outputs) (trial .pins) (trial .chunk) (trial .at) (kindsOf bytes) (countsOf bytes) (firstsOf tables) (netsOf pins) (orderOf tables) (branchesOf pins) (now reach) (slotsOf group) (outsOf group) (now goods) ⌝ }
     requires { ⌜ (now vals ≡ now goods) × Long (now left) (now best) (now pat) ⌝ }
-    ensures { λ _. ⌜ Went (PadFault c i c (now (firsts .entry)) (now (sources .entry))) (FaultStep i c o q g (now (kinds .entry)) (now (counts .entry)) (now (firsts .entry)) (now (nets .entry)) (now (order .entry)) (now (reach .entry)) (now (src .entry)) (now (outs .entry)) (now (goods .entry))) (now (left .entry)) (now (best .entry)) (now (pat .entry)) (now (left .exit)) (now (best .exit)) (now (pat .exit)) ⌝ }
+    ensures { λ _. ⌜ Went (PadFault (trial .cells) (trial .inputs) (trial .cells) (firstsOf (tables .entry)) (sourcesOf (tables .entry))) (FaultStep (trial .inputs) (trial .cells) (trial .outputs) (trial .chunk) (trial .at) (kindsOf (bytes .entry)) (countsOf (bytes .entry)) (firstsOf (tables .entry)) (netsOf (pins .entry)) (orderOf (tables .entry)) (now (reach .entry)) (slotsOf (group .entry)) (outsOf (group .entry)) (now (goods .entry))) (now (left .entry)) (now (best .entry)) (now (pat .entry)) (now (left .exit)) (now (best .exit)) (now (pat .exit)) ⌝ }
     ensures { λ _. ⌜ now (vals .exit) ≡ now (goods .entry) ⌝ }
 {
+    let i = trial.inputs;
+    let c = trial.cells;
+    let sources = tables[SOURCE];
     for j in 0..c {
         if wide(sources[i + j]) < i {
             try_pad(
-                i,
-                c,
-                o,
-                n,
                 j,
-                q,
-                g,
-                kinds,
-                counts,
-                firsts,
-                nets,
-                order,
-                branches,
+                trial,
+                bytes,
+                tables,
+                pins,
+                group,
                 reach,
-                src,
-                outs,
                 goods,
                 vals,
                 left,

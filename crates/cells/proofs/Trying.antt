@@ -6,7 +6,7 @@ use mathlib.Core.Bool.{Bool, true, false, false≢true}
 use mathlib.Core.List.{List, [], _∷_}
 use native.Mathlib.Omega.{arith}
 use native.Mathlib.Decide.{ℕ-discrete, decLt}
-use lib.ListN.{length, getD}
+use lib.ListN.{length, getD, replicate, length-replicate, getD-replicate, List·getD-eq-default}
 use lib.Bits.{bitAnd, bitXor, xor-add-and, and-self, and-zero-r, xor-zero-r}
 use Rattle.chip.specs.Search.{digit}
 use Rattle.words.proofs.Bits.{digit-zero}
@@ -161,3 +161,13 @@ module _ (c u p q kind net pin j a n : ℕ) (kinds counts firsts src order reach
     where
       S : SeenAt u outs goods goods 0
       S = record { within = λ y e. absurd (false≢true (sym (digit-zero y) ∙ e)); same = λ y l d e k b. refl }
+
+-- a table of zeros has no bit set
+pub clear-blank : Clear (replicate 16 0)
+clear-blank = record { long = length-replicate {A = ℕ} 16 0; clear = λ t. ap (digit (t % 64)) (zero (t / 64)) ∙ digit-zero (t % 64) }
+  where
+    zero : (x : ℕ) → _≡_ {A = ℕ} (getD (replicate 16 0) x 0) 0
+    zero x = elim (decLt x 16) [
+      | yes l ↦ getD-replicate 16 x 0 0 l
+      | no g ↦ List·getD-eq-default (replicate {A = ℕ} 16 0) 0 {n = x} (omega (arith, length-replicate {A = ℕ} 16 0))
+    ]

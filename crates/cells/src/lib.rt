@@ -3,11 +3,23 @@ ghost use mathlib.Core.Path.{_≡_};
 ghost use mathlib.Core.Bool.{true};
 ghost use Prim.Native.Nat.{ℕ, _+_, _*_, _≤_, _<_};
 ghost use lib.ListN.{length, getD};
-ghost use Rattle.events.specs.Events.{marked, Chip, Marks, Agree, Restored};
+ghost use Rattle.events.specs.Events.{Chip, Marks};
+ghost use Rattle.events.specs.Lent.{kindsOf, countsOf, firstsOf, orderOf, headsOf, readersOf, slotsOf, outsOf};
 ghost use Rattle.homes.specs.Homes.{Home, LookedHome, HomeLanes};
-ghost use Rattle.cells.specs.Cells.{Good, Clear, FlipRan, HomeTried, Back};
+ghost use Rattle.cells.specs.Cells.{Good, Clear, FlipRan, HomeTried};
+use chip::CELLS;
+use chip::FAULTS;
 use chip::wide;
+use events::HEAD;
+use events::MARKS;
+use events::ORDER;
+use events::OUT;
+use events::READER;
+use events::SLOT;
+use events::Trial;
+use homes::Cell;
 use rows::ROW;
+use rows::WORDS;
 
 // Marks the readers of cell j.
 fn mark_readers(j: usize, u: u64, heads: &[u16], readers: &[u16], reach: &[u64], marks: &mut [u64])
@@ -26,107 +38,57 @@ fn mark_readers(j: usize, u: u64, heads: &[u16], readers: &[u16], reach: &[u64],
 }
 
 // Flips the home at place p in the lanes of acc, and carries the change on.
-fn flip_run(
+fn flip_run<'a>(
     p: usize,
     c: usize,
     u: u64,
-    kinds: &[u8],
-    counts: &[u8],
-    firsts: &[u16],
+    bytes: [&'a [u8]; 3],
+    tables: [&'a [u16]; 5],
     src: &[u16],
-    order: &[u16],
-    reach: &[u64],
-    heads: &[u16],
-    readers: &[u16],
-    acc: &[u64],
-    vals: &mut [u64],
-    marks: &mut [u64],
-    changed: &mut [u64],
+    reach: &[u64; CELLS],
+    acc: &[u64; ROW],
+    vals: &mut [u64; WORDS],
+    marks: &mut [u64; MARKS],
+    changed: &mut [u64; MARKS],
 )
-    requires { ⌜ Chip c (now kinds) (now counts) (now firsts) (now src) (now order) (now reach) (now heads) (now readers) ⌝ }
+    requires { ⌜ Chip c (kindsOf bytes) (countsOf bytes) (firstsOf tables) (now src) (orderOf tables) (now reach) (headsOf tables) (readersOf tables) ⌝ }
     requires { ⌜ (p < c) × (length (now acc) ≡ 16) × (length (now vals) ≡ 16672) × Clear (now marks) × Clear (now changed) ⌝ }
-    requires { ⌜ Good c u (now kinds) (now counts) (now firsts) (now src) (now order) (now reach) (now vals) ⌝ }
-    ensures { λ _. ⌜ FlipRan c u p (now (kinds .entry)) (now (counts .entry)) (now (firsts .entry)) (now (src .entry)) (now (order .entry)) (now (reach .entry)) (now (vals .entry)) (now (vals .exit)) (now (changed .exit)) (λ k. getD (now (acc .entry)) k 0) ⌝ }
+    requires { ⌜ Good c u (kindsOf bytes) (countsOf bytes) (firstsOf tables) (now src) (orderOf tables) (now reach) (now vals) ⌝ }
+    ensures { λ _. ⌜ FlipRan c u p (kindsOf (bytes .entry)) (countsOf (bytes .entry)) (firstsOf (tables .entry)) (now (src .entry)) (orderOf (tables .entry)) (now (reach .entry)) (now (vals .entry)) (now (vals .exit)) (now (changed .exit)) (λ k. getD (now (acc .entry)) k 0) ⌝ }
     ensures { λ _. ⌜ length (now (marks .exit)) ≡ 16 ⌝ }
 {
+    let order = tables[ORDER];
     let j = wide(order[p]);
     homes::flip(acc, 16 + j, vals);
     events::put_bit(p, changed);
-    mark_readers(j, u, heads, readers, reach, marks);
-    events::run(
-        p + 1,
-        c,
-        u,
-        kinds,
-        counts,
-        firsts,
-        src,
-        order,
-        reach,
-        heads,
-        readers,
-        vals,
-        marks,
-        changed,
-    );
-}
-
-// Puts the good words back, and clears the bits.
-pub fn undo(
-    c: usize,
-    order: &[u16],
-    goods: &[u64],
-    vals: &mut [u64],
-    marks: &mut [u64],
-    changed: &mut [u64],
-)
-    requires { ⌜ (c ≤ 1024) × (c ≤ length (now order)) × ((t : ℕ) → t < c → getD (now order) t 0 < 1024) ⌝ }
-    requires { ⌜ (length (now vals) ≡ 16672) × (length (now goods) ≡ 16672) × (length (now marks) ≡ 16) × (length (now changed) ≡ 16) ⌝ }
-    requires { ⌜ ((t : ℕ) → marked (now changed) t ≡ true → t < c) × Agree c (now order) (now goods) (now changed) (now vals) ⌝ }
-    ensures { λ _. ⌜ Restored (now (goods .entry)) (now (vals .entry)) (now (vals .exit)) ⌝ }
-    ensures { λ _. ⌜ Clear (now (marks .exit)) ⌝ }
-    ensures { λ _. ⌜ Clear (now (changed .exit)) ⌝ }
-{
-    events::restore(0, c, order, goods, changed, vals);
-    events::clear(marks);
-    events::clear(changed);
+    mark_readers(j, u, tables[HEAD], tables[READER], reach, marks);
+    events::run(p + 1, c, u, bytes, tables, src, reach, vals, marks, changed);
 }
 
 // Looks for the open faults of the home at the outputs of u.
-fn look_seen(
-    kind: u8,
-    net: usize,
-    pin: usize,
-    h: usize,
-    a: usize,
-    n: usize,
+fn look_seen<'a>(
+    home: Cell,
     q: usize,
     u: u64,
-    src: &[u16],
-    outs: &[u16],
-    goods: &[u64],
-    vals: &[u64],
-    left: &mut [u64],
-    best: &mut [u8],
-    pat: &mut [u32],
+    group: [&'a [u16]; 3],
+    goods: &[u64; WORDS],
+    vals: &[u64; WORDS],
+    left: &mut [u64; FAULTS],
+    best: &mut [u8; FAULTS],
+    pat: &mut [u32; FAULTS],
 )
-    requires { ⌜ (q < 4096) × (length (now outs) ≡ 64) × ((z : ℕ) → z < 64 → (16 * getD (now outs) z 0 + 16 ≤ length (now goods)) × (16 * getD (now outs) z 0 + 16 ≤ length (now vals))) ⌝ }
-    requires { ⌜ (net < pin) × (pin + n ≤ 5184) × (16 * h + 16 ≤ length (now goods)) × Home kind (now src) (length (now goods)) a n ⌝ }
+    requires { ⌜ (q < 4096) × (length (outsOf group) ≡ 64) × ((z : ℕ) → z < 64 → (16 * getD (outsOf group) z 0 + 16 ≤ length (now goods)) × (16 * getD (outsOf group) z 0 + 16 ≤ length (now vals))) ⌝ }
+    requires { ⌜ (home .net < home .pin) × (home .pin + home .count ≤ 5184) × (home .number < 1024) × (16 * (16 + home .number) + 16 ≤ length (now goods)) × Home (home .kind) (slotsOf group) (length (now goods)) (home .first) (home .count) ⌝ }
     requires { ⌜ (length (now left) ≡ 10368) × (length (now best) ≡ 10368) × (length (now pat) ≡ 10368) ⌝ }
-    ensures { λ _. ⌜ LookedHome (2 * n + 2) kind net pin h a n q u (now (src .entry)) (now (outs .entry)) (now (goods .entry)) (now (vals .entry)) (now (left .entry)) (now (best .entry)) (now (pat .entry)) (now (left .exit)) (now (best .exit)) (now (pat .exit)) ⌝ }
+    ensures { λ _. ⌜ LookedHome (2 * home .count + 2) (home .kind) (home .net) (home .pin) (16 + home .number) (home .first) (home .count) q u (slotsOf (group .entry)) (outsOf (group .entry)) (now (goods .entry)) (now (vals .entry)) (now (left .entry)) (now (best .entry)) (now (pat .entry)) (now (left .exit)) (now (best .exit)) (now (pat .exit)) ⌝ }
 {
-    let seen = homes::seen_at(u, outs, goods, vals);
+    let seen = homes::seen_at(u, group[OUT], goods, vals);
     homes::look_home(
-        kind,
-        net,
-        pin,
-        h,
-        a,
-        n,
+        home,
         q,
         seen,
-        src,
-        outs,
+        group[SLOT],
+        group[OUT],
         goods,
         vals,
         left,
@@ -135,149 +97,109 @@ fn look_seen(
     );
 }
 
-// Flips the home at place p in the lanes of acc, looks for its open faults, and puts all back.
-fn flip_look(
-    p: usize,
-    c: usize,
-    q: usize,
-    u: u64,
-    kind: u8,
-    net: usize,
-    pin: usize,
-    j: usize,
-    a: usize,
-    n: usize,
-    kinds: &[u8],
-    counts: &[u8],
-    firsts: &[u16],
-    src: &[u16],
-    order: &[u16],
-    reach: &[u64],
-    heads: &[u16],
-    readers: &[u16],
-    outs: &[u16],
-    goods: &[u64],
-    acc: &[u64],
-    vals: &mut [u64],
-    marks: &mut [u64],
-    changed: &mut [u64],
-    left: &mut [u64],
-    best: &mut [u8],
-    pat: &mut [u32],
+// Flips the home in the lanes of acc, looks for its open faults, and puts the good words back.
+fn flip_look<'a, 'b>(
+    home: Cell,
+    trial: Trial,
+    bytes: [&'a [u8]; 3],
+    tables: [&'a [u16]; 5],
+    group: [&'b [u16]; 3],
+    reach: &[u64; CELLS],
+    goods: &[u64; WORDS],
+    acc: &[u64; ROW],
+    vals: &mut [u64; WORDS],
+    left: &mut [u64; FAULTS],
+    best: &mut [u8; FAULTS],
+    pat: &mut [u32; FAULTS],
 )
-    requires { ⌜ Chip c (now kinds) (now counts) (now firsts) (now src) (now order) (now reach) (now heads) (now readers) ⌝ }
-    requires { ⌜ (p < c) × (j ≡ getD (now order) p 0) × (length (now acc) ≡ 16) × (length (now goods) ≡ 16672) × Back (now goods) (now vals) (now marks) (now changed) ⌝ }
-    requires { ⌜ Good c u (now kinds) (now counts) (now firsts) (now src) (now order) (now reach) (now goods) ⌝ }
-    requires { ⌜ (q < 4096) × (length (now outs) ≡ 64) × ((z : ℕ) → z < 64 → 16 * getD (now outs) z 0 + 16 ≤ 16672) ⌝ }
-    requires { ⌜ (net < pin) × (pin + n ≤ 5184) × Home kind (now src) 16672 a n ⌝ }
+    requires { ⌜ Chip (trial .cells) (kindsOf bytes) (countsOf bytes) (firstsOf tables) (slotsOf group) (orderOf tables) (now reach) (headsOf tables) (readersOf tables) ⌝ }
+    requires { ⌜ (home .place < trial .cells) × (home .number ≡ getD (orderOf tables) (home .place) 0) × (length (now acc) ≡ 16) × (length (now goods) ≡ 16672) × (now vals ≡ now goods) ⌝ }
+    requires { ⌜ Good (trial .cells) (trial .at) (kindsOf bytes) (countsOf bytes) (firstsOf tables) (slotsOf group) (orderOf tables) (now reach) (now goods) ⌝ }
+    requires { ⌜ (trial .chunk < 4096) × (length (outsOf group) ≡ 64) × ((z : ℕ) → z < 64 → 16 * getD (outsOf group) z 0 + 16 ≤ 16672) ⌝ }
+    requires { ⌜ (home .net < home .pin) × (home .pin + home .count ≤ 5184) × Home (home .kind) (slotsOf group) 16672 (home .first) (home .count) ⌝ }
     requires { ⌜ (length (now left) ≡ 10368) × (length (now best) ≡ 10368) × (length (now pat) ≡ 10368) ⌝ }
-    requires { ⌜ HomeLanes (2 * n + 2) kind net pin (16 + j) a n u (now src) (now left) (now goods) (now acc) ⌝ }
-    ensures { λ _. ⌜ HomeTried c u p q kind net pin j a n (now (kinds .entry)) (now (counts .entry)) (now (firsts .entry)) (now (src .entry)) (now (order .entry)) (now (reach .entry)) (now (outs .entry)) (now (goods .entry)) (now (left .entry)) (now (best .entry)) (now (pat .entry)) (now (left .exit)) (now (best .exit)) (now (pat .exit)) ⌝ }
-    ensures { λ _. ⌜ Back (now (goods .entry)) (now (vals .exit)) (now (marks .exit)) (now (changed .exit)) ⌝ }
+    requires { ⌜ HomeLanes (2 * home .count + 2) (home .kind) (home .net) (home .pin) (16 + home .number) (home .first) (home .count) (trial .at) (slotsOf group) (now left) (now goods) (now acc) ⌝ }
+    ensures { λ _. ⌜ HomeTried (trial .cells) (trial .at) (home .place) (trial .chunk) (home .kind) (home .net) (home .pin) (home .number) (home .first) (home .count) (kindsOf (bytes .entry)) (countsOf (bytes .entry)) (firstsOf (tables .entry)) (slotsOf (group .entry)) (orderOf (tables .entry)) (now (reach .entry)) (outsOf (group .entry)) (now (goods .entry)) (now (left .entry)) (now (best .entry)) (now (pat .entry)) (now (left .exit)) (now (best .exit)) (now (pat .exit)) ⌝ }
+    ensures { λ _. ⌜ now (vals .exit) ≡ now (goods .entry) ⌝ }
 {
+    let mut marks = [0u64; MARKS];
+    let mut changed = [0u64; MARKS];
     flip_run(
-        p,
-        c,
-        u,
-        kinds,
-        counts,
-        firsts,
-        src,
-        order,
+        home.place,
+        trial.cells,
+        trial.at,
+        bytes,
+        tables,
+        group[SLOT],
         reach,
-        heads,
-        readers,
         acc,
         vals,
-        marks,
-        changed,
+        &mut marks,
+        &mut changed,
     );
     look_seen(
-        kind,
-        net,
-        pin,
-        16 + j,
-        a,
-        n,
-        q,
-        u,
-        src,
-        outs,
+        home,
+        trial.chunk,
+        trial.at,
+        group,
         goods,
         vals,
         left,
         best,
         pat,
     );
-    undo(c, order, goods, vals, marks, changed);
+    events::restore(0, trial.cells, tables[ORDER], goods, &changed, vals);
 }
 
-// Tries the open faults of the home at place p in one chunk.
-pub fn try_home(
-    p: usize,
-    c: usize,
-    q: usize,
-    u: u64,
-    kind: u8,
-    net: usize,
-    pin: usize,
-    j: usize,
-    a: usize,
-    n: usize,
-    kinds: &[u8],
-    counts: &[u8],
-    firsts: &[u16],
-    src: &[u16],
-    order: &[u16],
-    reach: &[u64],
-    heads: &[u16],
-    readers: &[u16],
-    outs: &[u16],
-    goods: &[u64],
-    vals: &mut [u64],
-    marks: &mut [u64],
-    changed: &mut [u64],
-    left: &mut [u64],
-    best: &mut [u8],
-    pat: &mut [u32],
+// Tries the open faults of the home in one chunk.
+pub fn try_home<'a, 'b>(
+    home: Cell,
+    trial: Trial,
+    bytes: [&'a [u8]; 3],
+    tables: [&'a [u16]; 5],
+    group: [&'b [u16]; 3],
+    reach: &[u64; CELLS],
+    goods: &[u64; WORDS],
+    vals: &mut [u64; WORDS],
+    left: &mut [u64; FAULTS],
+    best: &mut [u8; FAULTS],
+    pat: &mut [u32; FAULTS],
 )
-    requires { ⌜ Chip c (now kinds) (now counts) (now firsts) (now src) (now order) (now reach) (now heads) (now readers) ⌝ }
-    requires { ⌜ (p < c) × (j ≡ getD (now order) p 0) × (length (now goods) ≡ 16672) × Back (now goods) (now vals) (now marks) (now changed) ⌝ }
-    requires { ⌜ Good c u (now kinds) (now counts) (now firsts) (now src) (now order) (now reach) (now goods) ⌝ }
-    requires { ⌜ (q < 4096) × (length (now outs) ≡ 64) × ((z : ℕ) → z < 64 → 16 * getD (now outs) z 0 + 16 ≤ 16672) ⌝ }
-    requires { ⌜ (net < pin) × (pin + n ≤ 5184) × Home kind (now src) 16672 a n ⌝ }
+    requires { ⌜ Chip (trial .cells) (kindsOf bytes) (countsOf bytes) (firstsOf tables) (slotsOf group) (orderOf tables) (now reach) (headsOf tables) (readersOf tables) ⌝ }
+    requires { ⌜ (home .place < trial .cells) × (home .number ≡ getD (orderOf tables) (home .place) 0) × (length (now goods) ≡ 16672) × (now vals ≡ now goods) ⌝ }
+    requires { ⌜ Good (trial .cells) (trial .at) (kindsOf bytes) (countsOf bytes) (firstsOf tables) (slotsOf group) (orderOf tables) (now reach) (now goods) ⌝ }
+    requires { ⌜ (trial .chunk < 4096) × (length (outsOf group) ≡ 64) × ((z : ℕ) → z < 64 → 16 * getD (outsOf group) z 0 + 16 ≤ 16672) ⌝ }
+    requires { ⌜ (home .net < home .pin) × (home .pin + home .count ≤ 5184) × Home (home .kind) (slotsOf group) 16672 (home .first) (home .count) ⌝ }
     requires { ⌜ (length (now left) ≡ 10368) × (length (now best) ≡ 10368) × (length (now pat) ≡ 10368) ⌝ }
-    ensures { λ _. ⌜ HomeTried c u p q kind net pin j a n (now (kinds .entry)) (now (counts .entry)) (now (firsts .entry)) (now (src .entry)) (now (order .entry)) (now (reach .entry)) (now (outs .entry)) (now (goods .entry)) (now (left .entry)) (now (best .entry)) (now (pat .entry)) (now (left .exit)) (now (best .exit)) (now (pat .exit)) ⌝ }
-    ensures { λ _. ⌜ Back (now (goods .entry)) (now (vals .exit)) (now (marks .exit)) (now (changed .exit)) ⌝ }
+    ensures { λ _. ⌜ HomeTried (trial .cells) (trial .at) (home .place) (trial .chunk) (home .kind) (home .net) (home .pin) (home .number) (home .first) (home .count) (kindsOf (bytes .entry)) (countsOf (bytes .entry)) (firstsOf (tables .entry)) (slotsOf (group .entry)) (orderOf (tables .entry)) (now (reach .entry)) (outsOf (group .entry)) (now (goods .entry)) (now (left .entry)) (now (best .entry)) (now (pat .entry)) (now (left .exit)) (now (best .exit)) (now (pat .exit)) ⌝ }
+    ensures { λ _. ⌜ now (vals .exit) ≡ now (goods .entry) ⌝ }
 {
+    let h = home.number;
     let mut acc = [0u64; ROW];
-    homes::home_lanes(kind, net, pin, 16 + j, a, n, u, src, left, goods, &mut acc);
+    homes::home_lanes(
+        home.kind,
+        home.net,
+        home.pin,
+        16 + h,
+        home.first,
+        home.count,
+        trial.at,
+        group[SLOT],
+        left,
+        goods,
+        &mut acc,
+    );
     if homes::any(&acc) {
         flip_look(
-            p,
-            c,
-            q,
-            u,
-            kind,
-            net,
-            pin,
-            j,
-            a,
-            n,
-            kinds,
-            counts,
-            firsts,
-            src,
-            order,
+            home,
+            trial,
+            bytes,
+            tables,
+            group,
             reach,
-            heads,
-            readers,
-            outs,
             goods,
             &acc,
             vals,
-            marks,
-            changed,
             left,
             best,
             pat,

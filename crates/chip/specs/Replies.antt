@@ -10,12 +10,11 @@ use Rattle.chip.specs.Netlist.{Netlist, allPins}
 use Rattle.chip.specs.Class.{Blocks, blocks}
 use Rattle.chip.specs.Transformed.{copies}
 use Rattle.chip.specs.File.{transformedFile}
-use Rattle.chip.specs.Faults.{FaultIn, stuck, Shown, playOf, AllBits, IsPlay}
+use Rattle.chip.specs.Faults.{FaultIn, stuck, Shown, playOf, AllBits, IsPlay, Showable}
 use Rattle.chip.specs.Clocks.{patternOf, Sets, Reads}
 use Rattle.chip.specs.Checking.{Seen, NotSeen}
 use Rattle.chip.specs.Search.{pattern}
 use Rattle.chip.specs.Search as S
-use Rattle.chip.specs.Faults.{Showable}
 use Rattle.chip.specs.Refusals.{Step, At, Is, Start, Knowing, When11, Clocks, When16, When18, When19, Short, Wrote, leaving}
 use Rattle.chip.specs.declared.Fault.{Fault}
 use Rattle.chip.specs.declared.Classed.{Classed}

@@ -98,17 +98,3 @@ marks-more from x u readers reach marks marks′ marks″ p f M e B =
       | yes q ↦ ap (marked marks″) q ∙ B .here
       | no d ↦ B .other t d ∙ h
     ]
-
--- ---- no bit set
-
-pub clear-more : (n : ℕ) (bits : List ℕ) → length bits ≡ 16 → n < 16 → ((t : ℕ) → t / 64 < n → marked bits t ≡ false) → (t : ℕ) → t / 64 < n + 1 → marked (set bits n 0) t ≡ false
-clear-more n bits l h f t b = elim (ℕ-discrete (t / 64) n) [
-  | yes e ↦ ap (λ x. digit (t % 64) (getD (set bits n 0) x 0)) e ∙ ap (digit (t % 64)) (getD-set-same bits n 0 0 (omega arith)) ∙ digit-zero (t % 64)
-  | no d ↦ ap (digit (t % 64)) (getD-set-other bits n (t / 64) 0 0 d) ∙ f t (omega arith)
-]
-
-pub clear-all : (bits : List ℕ) → length bits ≡ 16 → ((t : ℕ) → t / 64 < 16 → marked bits t ≡ false) → (t : ℕ) → marked bits t ≡ false
-clear-all bits l f t = elim (decLt (t / 64) 16) [
-  | yes h ↦ f t h
-  | no g ↦ ap (digit (t % 64)) (List·getD-eq-default bits 0 (omega arith)) ∙ digit-zero (t % 64)
-]

@@ -10,7 +10,6 @@ use lib.ListN.{getD, replicate, length-replicate, getD-replicate, List·getD-eq-
 use lib.Bits.{bitAnd}
 use Rattle.chip.specs.Search.{digit}
 use Rattle.words.proofs.Bits.{digit-zero}
-use Rattle.cells.specs.Cells.{Clear}
 use Rattle.known.specs.Known.{Known}
 use Rattle.known.specs.Setting.{Shows, Long}
 use Rattle.rows.proofs.Bits.{split, meet}
@@ -20,16 +19,6 @@ use Rattle.outputs.specs.Groups.{Joined}
 use Rattle.groups.specs.Chunks.{ChunkTried, GroupTried}
 use Rattle.groups.proofs.Groups.{chunk-more}
 use Rattle.groups.proofs.Chunks.{stage-fewer}
-
--- a table of zeros has no bit set
-pub clear-blank : Clear (replicate 16 0)
-clear-blank = record { long = length-replicate {A = ℕ} 16 0; clear = λ t. ap (digit (t % 64)) (zero (t / 64)) ∙ digit-zero (t % 64) }
-  where
-    zero : (x : ℕ) → _≡_ {A = ℕ} (getD (replicate 16 0) x 0) 0
-    zero x = elim (decLt x 16) [
-      | yes l ↦ getD-replicate 16 x 0 0 l
-      | no g ↦ List·getD-eq-default (replicate {A = ℕ} 16 0) 0 {n = x} (omega (arith, length-replicate {A = ℕ} 16 0))
-    ]
 
 module _ (i c o n w g : ℕ) (kinds counts firsts nets order branches sources reach heads readers src outs list input : List ℕ) (left₀ best₀ pat₀ : List ℕ) where
   -- what is known of all faults once the patterns below 64 q are tried

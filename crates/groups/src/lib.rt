@@ -1,236 +1,149 @@
 // The outputs in groups with the same blocks behind them, each group over the chunks of its patterns.
+ghost use mathlib.Core.Path.{_≡_};
 ghost use Prim.Native.Nat.{ℕ, _+_, _*_, _≤_, _<_};
 ghost use lib.ListN.{getD};
 ghost use mathlib.Core.Bool.{Bool};
 ghost use mathlib.Core.List.{List};
 ghost use Rattle.chip.specs.Inner.Tables.{tabled};
 ghost use Rattle.events.specs.Events.{Chip};
-ghost use Rattle.cells.specs.Cells.{Clear, Back};
+ghost use Rattle.events.specs.Lent.{kindsOf, countsOf, inputsOf, firstsOf, orderOf, headsOf, readersOf, sourcesOf, netsOf, branchesOf, slotsOf, outsOf, variablesOf};
 ghost use Rattle.known.specs.Setting.{GoodRun, Long, Went};
 ghost use Rattle.stages.specs.Stage.{Watch, OutsOnly, Stage};
 ghost use Rattle.groups.specs.Chunks.{Store, GoodWords, Alone, ChunkStep, ChunkTried, GroupTried};
-use chip::Branches;
-use chip::Counts;
-use chip::Firsts;
-use chip::Kinds;
-use chip::Nets;
-use chip::Order;
-use events::MARKS;
+use chip::CELLS;
+use chip::FAULTS;
+use chip::PINS;
+use events::COUNT;
+use events::FIRST;
+use events::KIND;
+use events::ORDER;
+use events::SLOT;
+use events::Trial;
+use rows::WORDS;
 
-// The good words of the chunks from q on for the outputs of u, in both tables.
-fn good_words(
-    c: usize,
-    w: usize,
-    q: usize,
-    u: u64,
-    kinds: &[u8],
-    counts: &[u8],
-    firsts: &[u16],
+// The good words, in both tables.
+fn good_words<'a>(
+    trial: Trial,
+    bytes: [&'a [u8]; 3],
+    tables: [&'a [u16]; 5],
     src: &[u16],
-    order: &[u16],
-    reach: &[u64],
-    goods: &mut [u64],
-    vals: &mut [u64],
+    reach: &[u64; CELLS],
+    goods: &mut [u64; WORDS],
+    vals: &mut [u64; WORDS],
 )
-    requires { ⌜ ((heads readers : List ℕ) × Chip c (now kinds) (now counts) (now firsts) (now src) (now order) (now reach) heads readers) ⌝ }
-    requires { ⌜ (w ≤ 16) × (q < 4096) × (c ≤ 1024) × ((t : ℕ) → t < c → getD (now order) t 0 < c) × Store c (now goods) (now vals) ⌝ }
-    ensures { λ _. ⌜ GoodWords c w q u (now (kinds .entry)) (now (counts .entry)) (now (firsts .entry)) (now (src .entry)) (now (order .entry)) (now (reach .entry)) (now (goods .exit)) (now (vals .exit)) ⌝ }
+    requires { ⌜ ((heads readers : List ℕ) × Chip (trial .cells) (kindsOf bytes) (countsOf bytes) (firstsOf tables) (now src) (orderOf tables) (now reach) heads readers) ⌝ }
+    requires { ⌜ (trial .width ≤ 16) × (trial .chunk < 4096) × (trial .cells ≤ 1024) × ((t : ℕ) → t < (trial .cells) → getD (orderOf tables) t 0 < trial .cells) × Store (trial .cells) (now goods) (now vals) ⌝ }
+    ensures { λ _. ⌜ GoodWords (trial .cells) (trial .width) (trial .chunk) (trial .at) (kindsOf (bytes .entry)) (countsOf (bytes .entry)) (firstsOf (tables .entry)) (now (src .entry)) (orderOf (tables .entry)) (now (reach .entry)) (now (goods .exit)) (now (vals .exit)) ⌝ }
 {
-    patterns::set_variables(w, q, goods);
-    events::good_cells(c, u, kinds, counts, firsts, src, order, reach, goods);
+    let c = trial.cells;
+    patterns::set_variables(trial.width, trial.chunk, goods);
+    events::good_cells(
+        c,
+        trial.at,
+        bytes[KIND],
+        bytes[COUNT],
+        tables[FIRST],
+        src,
+        tables[ORDER],
+        reach,
+        goods,
+    );
     events::copy_words(16 * (16 + c), goods, vals);
 }
 
-// Tries the faults that are runs of their own, or looked at without one, at the outputs of u.
-fn try_alone(
-    i: usize,
-    c: usize,
-    o: usize,
-    n: usize,
-    w: usize,
-    q: usize,
-    u: u64,
-    kinds: &Kinds,
-    counts: &Counts,
-    firsts: &Firsts,
-    nets: &Nets,
-    order: &Order,
-    branches: &Branches,
-    sources: &[u16],
-    reach: &[u64],
-    heads: &[u16],
-    readers: &[u16],
-    src: &Nets,
-    outs: &[u16],
-    list: &[u16],
-    input: &[u8],
-    goods: &[u64],
-    vals: &mut [u64],
-    marks: &mut [u64],
-    changed: &mut [u64],
-    left: &mut [u64],
-    best: &mut [u8],
-    pat: &mut [u32],
+// Tries the faults that are runs of their own, or looked at without one.
+fn try_alone<'a, 'b, 'c>(
+    trial: Trial,
+    bytes: [&'a [u8]; 3],
+    tables: [&'a [u16]; 5],
+    pins: [&'c [u16; PINS]; 3],
+    group: [&'b [u16]; 3],
+    reach: &[u64; CELLS],
+    goods: &[u64; WORDS],
+    vals: &mut [u64; WORDS],
+    left: &mut [u64; FAULTS],
+    best: &mut [u8; FAULTS],
+    pat: &mut [u32; FAULTS],
 )
-    requires { ⌜ ((cone : List ℕ) × (low : ℕ → ℕ) × (rel : ℕ → ℕ → Bool) × Stage i c o n w u (now kinds) (now counts) (now firsts) (now nets) (now order) (now branches) (now sources) cone (now reach) (now heads) (now readers) (now src) (now outs) (now list) (now input) low rel) ⌝ }
-    requires { ⌜ Back (now goods) (now vals) (now marks) (now changed) ⌝ }
-    requires { ⌜ GoodRun c q u (now kinds) (now counts) (now firsts) (now src) (now order) (now reach) (now outs) (now goods) ⌝ }
+    requires { ⌜ ((cone : List ℕ) × (low : ℕ → ℕ) × (rel : ℕ → ℕ → Bool) × Stage (trial .inputs) (trial .cells) (trial .outputs) (trial .pins) (trial .width) (trial .at) (kindsOf bytes) (countsOf bytes) (firstsOf tables) (netsOf pins) (orderOf tables) (branchesOf pins) (sourcesOf tables) cone (now reach) (headsOf tables) (readersOf tables) (slotsOf group) (outsOf group) (variablesOf group) (inputsOf bytes) low rel) ⌝ }
+    requires { ⌜ now vals ≡ now goods ⌝ }
+    requires { ⌜ GoodRun (trial .cells) (trial .chunk) (trial .at) (kindsOf bytes) (countsOf bytes) (firstsOf tables) (slotsOf group) (orderOf tables) (now reach) (outsOf group) (now goods) ⌝ }
     requires { ⌜ Long (now left) (now best) (now pat) ⌝ }
-    ensures { λ _. ⌜ Went (Alone i c o n (now (firsts .entry)) (now (sources .entry))) (ChunkStep i c o n w q u (now (kinds .entry)) (now (counts .entry)) (now (firsts .entry)) (now (nets .entry)) (now (order .entry)) (now (reach .entry)) (now (src .entry)) (now (outs .entry)) (now (list .entry)) (now (input .entry)) (now (goods .entry))) (now (left .entry)) (now (best .entry)) (now (pat .entry)) (now (left .exit)) (now (best .exit)) (now (pat .exit)) ⌝ }
-    ensures { λ _. ⌜ Back (now (goods .entry)) (now (vals .exit)) (now (marks .exit)) (now (changed .exit)) ⌝ }
+    ensures { λ _. ⌜ Went (Alone (trial .inputs) (trial .cells) (trial .outputs) (trial .pins) (firstsOf (tables .entry)) (sourcesOf (tables .entry))) (ChunkStep (trial .inputs) (trial .cells) (trial .outputs) (trial .pins) (trial .width) (trial .chunk) (trial .at) (kindsOf (bytes .entry)) (countsOf (bytes .entry)) (firstsOf (tables .entry)) (netsOf (pins .entry)) (orderOf (tables .entry)) (now (reach .entry)) (slotsOf (group .entry)) (outsOf (group .entry)) (variablesOf (group .entry)) (inputsOf (bytes .entry)) (now (goods .entry))) (now (left .entry)) (now (best .entry)) (now (pat .entry)) (now (left .exit)) (now (best .exit)) (now (pat .exit)) ⌝ }
+    ensures { λ _. ⌜ now (vals .exit) ≡ now (goods .entry) ⌝ }
 {
     alone::try_inputs(
-        i,
-        c,
-        w,
-        q,
-        u,
-        kinds,
-        counts,
-        firsts,
-        src,
-        order,
+        trial,
+        bytes,
+        tables,
+        group,
         reach,
-        heads,
-        readers,
-        outs,
-        list,
-        input,
         goods,
         vals,
-        marks,
-        changed,
         left,
         best,
         pat,
     );
     buffers::try_pads(
-        i,
-        c,
-        o,
-        n,
-        q,
-        u,
-        kinds,
-        counts,
-        firsts,
-        nets,
-        order,
-        branches,
-        sources,
+        trial,
+        bytes,
+        tables,
+        pins,
+        group,
         reach,
-        src,
-        outs,
         goods,
         vals,
         left,
         best,
         pat,
     );
-    alone::try_outs(i, c, o, n, q, u, outs, goods, left, best, pat);
+    alone::try_outs(trial, group, goods, left, best, pat);
 }
 
-// Tries all faults that are open at an output of u in the chunks from q on.
-fn try_chunk(
-    i: usize,
-    c: usize,
-    o: usize,
-    n: usize,
-    w: usize,
-    q: usize,
-    u: u64,
-    kinds: &Kinds,
-    counts: &Counts,
-    firsts: &Firsts,
-    nets: &Nets,
-    order: &Order,
-    branches: &Branches,
-    sources: &[u16],
-    reach: &[u64],
-    heads: &[u16],
-    readers: &[u16],
-    src: &Nets,
-    outs: &[u16],
-    list: &[u16],
-    input: &[u8],
-    goods: &mut [u64],
-    vals: &mut [u64],
-    marks: &mut [u64],
-    changed: &mut [u64],
-    left: &mut [u64],
-    best: &mut [u8],
-    pat: &mut [u32],
-    groups: &mut [u64],
+// Tries all faults that are open at an output that is asked for.
+fn try_chunk<'a, 'b, 'c>(
+    trial: Trial,
+    bytes: [&'a [u8]; 3],
+    tables: [&'a [u16]; 5],
+    pins: [&'c [u16; PINS]; 3],
+    group: [&'b [u16]; 3],
+    reach: &[u64; CELLS],
+    goods: &mut [u64; WORDS],
+    vals: &mut [u64; WORDS],
+    left: &mut [u64; FAULTS],
+    best: &mut [u8; FAULTS],
+    pat: &mut [u32; FAULTS],
+    groups: &mut [u64; CELLS],
 )
-    requires { ⌜ ((cone : List ℕ) × (low : ℕ → ℕ) × (rel : ℕ → ℕ → Bool) × Stage i c o n w u (now kinds) (now counts) (now firsts) (now nets) (now order) (now branches) (now sources) cone (now reach) (now heads) (now readers) (now src) (now outs) (now list) (now input) low rel) ⌝ }
-    requires { ⌜ (q < 4096) × Store c (now goods) (now vals) × Clear (now marks) × Clear (now changed) ⌝ }
-    requires { ⌜ Long (now left) (now best) (now pat) × OutsOnly i c o n (now left) × Watch i c (tabled i c o (now kinds) (now counts) (now nets)) (now counts) (now firsts) (now order) (now left) (now groups) ⌝ }
-    ensures { λ _. ⌜ Store c (now (goods .exit)) (now (vals .exit)) × Clear (now (marks .exit)) × Clear (now (changed .exit)) ⌝ }
-    ensures { λ _. ⌜ Watch i c (tabled i c o (now (kinds .entry)) (now (counts .entry)) (now (nets .entry))) (now (counts .entry)) (now (firsts .entry)) (now (order .entry)) (now (left .exit)) (now (groups .exit)) ⌝ }
-    ensures { λ _. ⌜ ChunkTried i c o n w q u (now (kinds .entry)) (now (counts .entry)) (now (firsts .entry)) (now (nets .entry)) (now (order .entry)) (now (branches .entry)) (now (sources .entry)) (now (reach .entry)) (now (heads .entry)) (now (readers .entry)) (now (src .entry)) (now (outs .entry)) (now (list .entry)) (now (input .entry)) (now (left .entry)) (now (best .entry)) (now (pat .entry)) (now (left .exit)) (now (best .exit)) (now (pat .exit)) ⌝ }
+    requires { ⌜ ((cone : List ℕ) × (low : ℕ → ℕ) × (rel : ℕ → ℕ → Bool) × Stage (trial .inputs) (trial .cells) (trial .outputs) (trial .pins) (trial .width) (trial .at) (kindsOf bytes) (countsOf bytes) (firstsOf tables) (netsOf pins) (orderOf tables) (branchesOf pins) (sourcesOf tables) cone (now reach) (headsOf tables) (readersOf tables) (slotsOf group) (outsOf group) (variablesOf group) (inputsOf bytes) low rel) ⌝ }
+    requires { ⌜ (trial .chunk < 4096) × Store (trial .cells) (now goods) (now vals) ⌝ }
+    requires { ⌜ Long (now left) (now best) (now pat) × OutsOnly (trial .inputs) (trial .cells) (trial .outputs) (trial .pins) (now left) × Watch (trial .inputs) (trial .cells) (tabled (trial .inputs) (trial .cells) (trial .outputs) (kindsOf bytes) (countsOf bytes) (netsOf pins)) (countsOf bytes) (firstsOf tables) (orderOf tables) (now left) (now groups) ⌝ }
+    ensures { λ _. ⌜ Store (trial .cells) (now (goods .exit)) (now (vals .exit)) ⌝ }
+    ensures { λ _. ⌜ Watch (trial .inputs) (trial .cells) (tabled (trial .inputs) (trial .cells) (trial .outputs) (kindsOf (bytes .entry)) (countsOf (bytes .entry)) (netsOf (pins .entry))) (countsOf (bytes .entry)) (firstsOf (tables .entry)) (orderOf (tables .entry)) (now (left .exit)) (now (groups .exit)) ⌝ }
+    ensures { λ _. ⌜ ChunkTried (trial .inputs) (trial .cells) (trial .outputs) (trial .pins) (trial .width) (trial .chunk) (trial .at) (kindsOf (bytes .entry)) (countsOf (bytes .entry)) (firstsOf (tables .entry)) (netsOf (pins .entry)) (orderOf (tables .entry)) (branchesOf (pins .entry)) (sourcesOf (tables .entry)) (now (reach .entry)) (headsOf (tables .entry)) (readersOf (tables .entry)) (slotsOf (group .entry)) (outsOf (group .entry)) (variablesOf (group .entry)) (inputsOf (bytes .entry)) (now (left .entry)) (now (best .entry)) (now (pat .entry)) (now (left .exit)) (now (best .exit)) (now (pat .exit)) ⌝ }
 {
-    good_words(
-        c,
-        w,
-        q,
-        u,
-        kinds,
-        counts,
-        firsts,
-        src,
-        order,
-        reach,
-        goods,
-        vals,
-    );
+    good_words(trial, bytes, tables, group[SLOT], reach, goods, vals);
     try_alone(
-        i,
-        c,
-        o,
-        n,
-        w,
-        q,
-        u,
-        kinds,
-        counts,
-        firsts,
-        nets,
-        order,
-        branches,
-        sources,
+        trial,
+        bytes,
+        tables,
+        pins,
+        group,
         reach,
-        heads,
-        readers,
-        src,
-        outs,
-        list,
-        input,
         goods,
         vals,
-        marks,
-        changed,
         left,
         best,
         pat,
     );
     places::try_places(
-        i,
-        c,
-        q,
-        u,
-        kinds,
-        counts,
-        firsts,
-        src,
-        order,
+        trial,
+        bytes,
+        tables,
+        group,
         reach,
-        heads,
-        readers,
-        outs,
         goods,
         vals,
-        marks,
-        changed,
         left,
         best,
         pat,
@@ -238,77 +151,51 @@ fn try_chunk(
     );
 }
 
-// Tries all patterns of a group g of outputs with w blocks behind each, 1,024 at a time, while some fault is open at one of them.
-pub fn try_group(
-    i: usize,
-    c: usize,
-    o: usize,
-    n: usize,
-    w: usize,
-    g: u64,
-    kinds: &Kinds,
-    counts: &Counts,
-    firsts: &Firsts,
-    nets: &Nets,
-    order: &Order,
-    branches: &Branches,
-    sources: &[u16],
-    reach: &[u64],
-    heads: &[u16],
-    readers: &[u16],
-    src: &Nets,
-    outs: &[u16],
-    list: &[u16],
-    input: &[u8],
-    goods: &mut [u64],
-    vals: &mut [u64],
-    left: &mut [u64],
-    best: &mut [u8],
-    pat: &mut [u32],
-    groups: &mut [u64],
+// Tries all patterns of a group of outputs with `width` blocks behind each, 1,024 at a time from the first on, while some fault is open at one of them.
+pub fn try_group<'a, 'b, 'c>(
+    trial: Trial,
+    bytes: [&'a [u8]; 3],
+    tables: [&'a [u16]; 5],
+    pins: [&'c [u16; PINS]; 3],
+    group: [&'b [u16]; 3],
+    reach: &[u64; CELLS],
+    goods: &mut [u64; WORDS],
+    vals: &mut [u64; WORDS],
+    left: &mut [u64; FAULTS],
+    best: &mut [u8; FAULTS],
+    pat: &mut [u32; FAULTS],
+    groups: &mut [u64; CELLS],
 )
-    requires { ⌜ ((cone : List ℕ) × (low : ℕ → ℕ) × (rel : ℕ → ℕ → Bool) × Stage i c o n w g (now kinds) (now counts) (now firsts) (now nets) (now order) (now branches) (now sources) cone (now reach) (now heads) (now readers) (now src) (now outs) (now list) (now input) low rel) ⌝ }
-    requires { ⌜ Store c (now goods) (now vals) ⌝ }
-    requires { ⌜ Long (now left) (now best) (now pat) × OutsOnly i c o n (now left) × Watch i c (tabled i c o (now kinds) (now counts) (now nets)) (now counts) (now firsts) (now order) (now left) (now groups) ⌝ }
-    ensures { λ _. ⌜ Store c (now (goods .exit)) (now (vals .exit)) ⌝ }
-    ensures { λ _. ⌜ Watch i c (tabled i c o (now (kinds .entry)) (now (counts .entry)) (now (nets .entry))) (now (counts .entry)) (now (firsts .entry)) (now (order .entry)) (now (left .exit)) (now (groups .exit)) ⌝ }
-    ensures { λ _. ⌜ GroupTried i c o n w g (now (kinds .entry)) (now (counts .entry)) (now (firsts .entry)) (now (nets .entry)) (now (order .entry)) (now (branches .entry)) (now (sources .entry)) (now (reach .entry)) (now (heads .entry)) (now (readers .entry)) (now (src .entry)) (now (outs .entry)) (now (list .entry)) (now (input .entry)) (now (left .entry)) (now (best .entry)) (now (pat .entry)) (now (left .exit)) (now (best .exit)) (now (pat .exit)) ⌝ }
+    requires { ⌜ ((cone : List ℕ) × (low : ℕ → ℕ) × (rel : ℕ → ℕ → Bool) × Stage (trial .inputs) (trial .cells) (trial .outputs) (trial .pins) (trial .width) (trial .at) (kindsOf bytes) (countsOf bytes) (firstsOf tables) (netsOf pins) (orderOf tables) (branchesOf pins) (sourcesOf tables) cone (now reach) (headsOf tables) (readersOf tables) (slotsOf group) (outsOf group) (variablesOf group) (inputsOf bytes) low rel) ⌝ }
+    requires { ⌜ Store (trial .cells) (now goods) (now vals) ⌝ }
+    requires { ⌜ Long (now left) (now best) (now pat) × OutsOnly (trial .inputs) (trial .cells) (trial .outputs) (trial .pins) (now left) × Watch (trial .inputs) (trial .cells) (tabled (trial .inputs) (trial .cells) (trial .outputs) (kindsOf bytes) (countsOf bytes) (netsOf pins)) (countsOf bytes) (firstsOf tables) (orderOf tables) (now left) (now groups) ⌝ }
+    ensures { λ _. ⌜ Store (trial .cells) (now (goods .exit)) (now (vals .exit)) ⌝ }
+    ensures { λ _. ⌜ Watch (trial .inputs) (trial .cells) (tabled (trial .inputs) (trial .cells) (trial .outputs) (kindsOf (bytes .entry)) (countsOf (bytes .entry)) (netsOf (pins .entry))) (countsOf (bytes .entry)) (firstsOf (tables .entry)) (orderOf (tables .entry)) (now (left .exit)) (now (groups .exit)) ⌝ }
+    ensures { λ _. ⌜ GroupTried (trial .inputs) (trial .cells) (trial .outputs) (trial .pins) (trial .width) (trial .at) (kindsOf (bytes .entry)) (countsOf (bytes .entry)) (firstsOf (tables .entry)) (netsOf (pins .entry)) (orderOf (tables .entry)) (branchesOf (pins .entry)) (sourcesOf (tables .entry)) (now (reach .entry)) (headsOf (tables .entry)) (readersOf (tables .entry)) (slotsOf (group .entry)) (outsOf (group .entry)) (variablesOf (group .entry)) (inputsOf (bytes .entry)) (now (left .entry)) (now (best .entry)) (now (pat .entry)) (now (left .exit)) (now (best .exit)) (now (pat .exit)) ⌝ }
 {
-    let mut marks = [0u64; MARKS];
-    let mut changed = [0u64; MARKS];
+    let i = trial.inputs;
+    let c = trial.cells;
+    let n = trial.pins;
+    let w = trial.width;
     let total = 1usize << w;
     let mut q = 0;
     while 64 * q < total {
-        let u = outputs::left_all(2 * (i + c + n), left) & g;
+        let u = outputs::left_all(2 * (i + c + n), left) & trial.at;
         if u == 0 {
             return;
         }
+        let mut t = trial;
+        t.chunk = q;
+        t.at = u;
         try_chunk(
-            i,
-            c,
-            o,
-            n,
-            w,
-            q,
-            u,
-            kinds,
-            counts,
-            firsts,
-            nets,
-            order,
-            branches,
-            sources,
+            t,
+            bytes,
+            tables,
+            pins,
+            group,
             reach,
-            heads,
-            readers,
-            src,
-            outs,
-            list,
-            input,
             goods,
             vals,
-            &mut marks,
-            &mut changed,
             left,
             best,
             pat,

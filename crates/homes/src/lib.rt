@@ -10,6 +10,17 @@ ghost use Rattle.homes.specs.Homes.{pinWord, homeWord, numberOf, Home, l
 use chip::wide;
 use rows::ROW;
 
+// A cell whose faults are tried: its place in the order, its number, its kind, the sites of its net and of its first pin, that pin, and how many it has.
+pub struct Cell {
+    pub place: usize,
+    pub number: usize,
+    pub kind: u8,
+    pub net: usize,
+    pub pin: usize,
+    pub first: usize,
+    pub count: usize,
+}
+
 // Copies n slots from pin a on.
 pub fn copy_pins(a: usize, n: usize, src: &[u16], pins: &mut [u16])
     requires { ⌜ (a + n ≤ length (now src)) × (n ≤ length (now pins)) ⌝ }
@@ -182,12 +193,7 @@ pub fn look(
 
 // Looks for the open faults of the home.
 pub fn look_home(
-    kind: u8,
-    net: usize,
-    pin: usize,
-    h: usize,
-    a: usize,
-    n: usize,
+    home: Cell,
     q: usize,
     u: u64,
     src: &[u16],
@@ -199,15 +205,21 @@ pub fn look_home(
     pat: &mut [u32],
 )
     requires { ⌜ (q < 4096) × (length (now outs) ≡ 64) × ((z : ℕ) → z < 64 → (16 * getD (now outs) z 0 + 16 ≤ length (now goods)) × (16 * getD (now outs) z 0 + 16 ≤ length (now vals))) ⌝ }
-    requires { ⌜ (net < pin) × (pin + n ≤ 5184) × (16 * h + 16 ≤ length (now goods)) × Home kind (now src) (length (now goods)) a n ⌝ }
+    requires { ⌜ (home .net < home .pin) × (home .pin + home .count ≤ 5184) × (home .number < 1024) × (16 * (16 + home .number) + 16 ≤ length (now goods)) × Home (home .kind) (now src) (length (now goods)) (home .first) (home .count) ⌝ }
     requires { ⌜ (length (now left) ≡ 10368) × (length (now best) ≡ 10368) × (length (now pat) ≡ 10368) ⌝ }
-    ensures { λ _. ⌜ LookedHome (2 * n + 2) kind net pin h a n q u (now (src .entry)) (now (outs .entry)) (now (goods .entry)) (now (vals .entry)) (now (left .entry)) (now (best .entry)) (now (pat .entry)) (now (left .exit)) (now (best .exit)) (now (pat .exit)) ⌝ }
+    ensures { λ _. ⌜ LookedHome (2 * home .count + 2) (home .kind) (home .net) (home .pin) (16 + home .number) (home .first) (home .count) q u (now (src .entry)) (now (outs .entry)) (now (goods .entry)) (now (vals .entry)) (now (left .entry)) (now (best .entry)) (now (pat .entry)) (now (left .exit)) (now (best .exit)) (now (pat .exit)) ⌝ }
 {
+    let kind = home.kind;
+    let net = home.net;
+    let pin = home.pin;
+    let a = home.first;
+    let n = home.count;
+    let h = home.number;
     for e in 0..2 * n + 2 {
         let f = number(e, net, pin);
         if left[f] & u != 0 {
             let mut t = [0u64; ROW];
-            home_diff(e, kind, a, n, h, src, goods, &mut t);
+            home_diff(e, kind, a, n, 16 + h, src, goods, &mut t);
             look(
                 f,
                 q,

@@ -4,11 +4,22 @@ ghost use mathlib.Core.Path.{_≡_};
 ghost use Prim.Native.Nat.{ℕ, _+_, _*_, _≤_, _<_};
 ghost use lib.ListN.{length, getD};
 ghost use Rattle.events.specs.Events.{Chip};
-ghost use Rattle.cells.specs.Cells.{Good, Back, HomeTried};
+ghost use Rattle.events.specs.Lent.{kindsOf, countsOf, firstsOf, orderOf, headsOf, readersOf, slotsOf, outsOf};
+ghost use Rattle.cells.specs.Cells.{Good, HomeTried};
 ghost use Rattle.known.specs.Setting.{GoodRun, Long};
 ghost use Rattle.places.specs.Places.{Covers, Apart, PlaceDone, PlacesDone};
+use chip::CELLS;
+use chip::FAULTS;
 use chip::wide;
 use chip::wide8;
+use events::COUNT;
+use events::FIRST;
+use events::KIND;
+use events::ORDER;
+use events::SLOT;
+use events::Trial;
+use homes::Cell;
+use rows::WORDS;
 
 // The outputs left to the faults of a cell: its net is a site, and its n pins those from another on.
 pub fn left_at(net: usize, pin: usize, n: usize, left: &[u64]) -> u64
@@ -42,187 +53,149 @@ fn left_of(
     left_at(i + j, i + c + wide(firsts[j]), wide8(counts[j]), left)
 }
 
-// Tries the open faults of the cell at place p at the outputs of u.
-fn try_cell(
-    i: usize,
-    c: usize,
+// Tries the open faults of the cell at place p.
+fn try_cell<'a, 'b>(
     p: usize,
-    q: usize,
-    u: u64,
-    kinds: &[u8],
-    counts: &[u8],
-    firsts: &[u16],
-    src: &[u16],
-    order: &[u16],
-    reach: &[u64],
-    heads: &[u16],
-    readers: &[u16],
-    outs: &[u16],
-    goods: &[u64],
-    vals: &mut [u64],
-    marks: &mut [u64],
-    changed: &mut [u64],
-    left: &mut [u64],
-    best: &mut [u8],
-    pat: &mut [u32],
+    trial: Trial,
+    bytes: [&'a [u8]; 3],
+    tables: [&'a [u16]; 5],
+    group: [&'b [u16]; 3],
+    reach: &[u64; CELLS],
+    goods: &[u64; WORDS],
+    vals: &mut [u64; WORDS],
+    left: &mut [u64; FAULTS],
+    best: &mut [u8; FAULTS],
+    pat: &mut [u32; FAULTS],
 )
-    requires { ⌜ Chip c (now kinds) (now counts) (now firsts) (now src) (now order) (now reach) (now heads) (now readers) ⌝ }
-    requires { ⌜ Apart i c (now counts) (now firsts) (now src) (now order) ⌝ }
-    requires { ⌜ (p < c) × (length (now goods) ≡ 16672) × Back (now goods) (now vals) (now marks) (now changed) ⌝ }
-    requires { ⌜ Good c u (now kinds) (now counts) (now firsts) (now src) (now order) (now reach) (now goods) ⌝ }
-    requires { ⌜ (q < 4096) × (length (now outs) ≡ 64) × ((z : ℕ) → z < 64 → 16 * getD (now outs) z 0 + 16 ≤ 16672) ⌝ }
+    requires { ⌜ Chip (trial .cells) (kindsOf bytes) (countsOf bytes) (firstsOf tables) (slotsOf group) (orderOf tables) (now reach) (headsOf tables) (readersOf tables) ⌝ }
+    requires { ⌜ Apart (trial .inputs) (trial .cells) (countsOf bytes) (firstsOf tables) (slotsOf group) (orderOf tables) ⌝ }
+    requires { ⌜ (p < trial .cells) × (length (now goods) ≡ 16672) × (now vals ≡ now goods) ⌝ }
+    requires { ⌜ Good (trial .cells) (trial .at) (kindsOf bytes) (countsOf bytes) (firstsOf tables) (slotsOf group) (orderOf tables) (now reach) (now goods) ⌝ }
+    requires { ⌜ (trial .chunk < 4096) × (length (outsOf group) ≡ 64) × ((z : ℕ) → z < 64 → 16 * getD (outsOf group) z 0 + 16 ≤ 16672) ⌝ }
     requires { ⌜ Long (now left) (now best) (now pat) ⌝ }
-    ensures { λ _. ⌜ HomeTried c u p q (getD (now (kinds .entry)) (getD (now (order .entry)) p 0) 0) (i + getD (now (order .entry)) p 0) (i + c + getD (now (firsts .entry)) (getD (now (order .entry)) p 0) 0) (getD (now (order .entry)) p 0) (getD (now (firsts .entry)) (getD (now (order .entry)) p 0) 0) (getD (now (counts .entry)) (getD (now (order .entry)) p 0) 0) (now (kinds .entry)) (now (counts .entry)) (now (firsts .entry)) (now (src .entry)) (now (order .entry)) (now (reach .entry)) (now (outs .entry)) (now (goods .entry)) (now (left .entry)) (now (best .entry)) (now (pat .entry)) (now (left .exit)) (now (best .exit)) (now (pat .exit)) ⌝ }
-    ensures { λ _. ⌜ Back (now (goods .entry)) (now (vals .exit)) (now (marks .exit)) (now (changed .exit)) ⌝ }
+    ensures { λ _. ⌜ HomeTried (trial .cells) (trial .at) p (trial .chunk) (getD (kindsOf (bytes .entry)) (getD (orderOf (tables .entry)) p 0) 0) (trial .inputs + getD (orderOf (tables .entry)) p 0) (trial .inputs + trial .cells + getD (firstsOf (tables .entry)) (getD (orderOf (tables .entry)) p 0) 0) (getD (orderOf (tables .entry)) p 0) (getD (firstsOf (tables .entry)) (getD (orderOf (tables .entry)) p 0) 0) (getD (countsOf (bytes .entry)) (getD (orderOf (tables .entry)) p 0) 0) (kindsOf (bytes .entry)) (countsOf (bytes .entry)) (firstsOf (tables .entry)) (slotsOf (group .entry)) (orderOf (tables .entry)) (now (reach .entry)) (outsOf (group .entry)) (now (goods .entry)) (now (left .entry)) (now (best .entry)) (now (pat .entry)) (now (left .exit)) (now (best .exit)) (now (pat .exit)) ⌝ }
+    ensures { λ _. ⌜ now (vals .exit) ≡ now (goods .entry) ⌝ }
 {
+    let kinds = bytes[KIND];
+    let counts = bytes[COUNT];
+    let firsts = tables[FIRST];
+    let order = tables[ORDER];
+    let i = trial.inputs;
+    let c = trial.cells;
     let j = wide(order[p]);
     let a = wide(firsts[j]);
     let n = wide8(counts[j]);
+    let home = Cell {
+        place: p,
+        number: j,
+        kind: kinds[j],
+        net: i + j,
+        pin: i + c + a,
+        first: a,
+        count: n,
+    };
     cells::try_home(
-        p,
-        c,
-        q,
-        u,
-        kinds[j],
-        i + j,
-        i + c + a,
-        j,
-        a,
-        n,
-        kinds,
-        counts,
-        firsts,
-        src,
-        order,
+        home,
+        trial,
+        bytes,
+        tables,
+        group,
         reach,
-        heads,
-        readers,
-        outs,
         goods,
         vals,
-        marks,
-        changed,
         left,
         best,
         pat,
     );
 }
 
-// Tries the faults of place p that are open at an output of g.
-fn try_place(
-    i: usize,
-    c: usize,
+// Tries the faults of place p that are open at an output that is asked for.
+fn try_place<'a, 'b>(
     p: usize,
-    q: usize,
-    g: u64,
-    kinds: &[u8],
-    counts: &[u8],
-    firsts: &[u16],
-    src: &[u16],
-    order: &[u16],
-    reach: &[u64],
-    heads: &[u16],
-    readers: &[u16],
-    outs: &[u16],
-    goods: &[u64],
-    vals: &mut [u64],
-    marks: &mut [u64],
-    changed: &mut [u64],
-    left: &mut [u64],
-    best: &mut [u8],
-    pat: &mut [u32],
-    groups: &mut [u64],
+    trial: Trial,
+    bytes: [&'a [u8]; 3],
+    tables: [&'a [u16]; 5],
+    group: [&'b [u16]; 3],
+    reach: &[u64; CELLS],
+    goods: &[u64; WORDS],
+    vals: &mut [u64; WORDS],
+    left: &mut [u64; FAULTS],
+    best: &mut [u8; FAULTS],
+    pat: &mut [u32; FAULTS],
+    groups: &mut [u64; CELLS],
 )
-    requires { ⌜ Chip c (now kinds) (now counts) (now firsts) (now src) (now order) (now reach) (now heads) (now readers) ⌝ }
-    requires { ⌜ Apart i c (now counts) (now firsts) (now src) (now order) ⌝ }
-    requires { ⌜ (p < c) × Back (now goods) (now vals) (now marks) (now changed) ⌝ }
-    requires { ⌜ GoodRun c q g (now kinds) (now counts) (now firsts) (now src) (now order) (now reach) (now outs) (now goods) ⌝ }
+    requires { ⌜ Chip (trial .cells) (kindsOf bytes) (countsOf bytes) (firstsOf tables) (slotsOf group) (orderOf tables) (now reach) (headsOf tables) (readersOf tables) ⌝ }
+    requires { ⌜ Apart (trial .inputs) (trial .cells) (countsOf bytes) (firstsOf tables) (slotsOf group) (orderOf tables) ⌝ }
+    requires { ⌜ (p < trial .cells) × (now vals ≡ now goods) ⌝ }
+    requires { ⌜ GoodRun (trial .cells) (trial .chunk) (trial .at) (kindsOf bytes) (countsOf bytes) (firstsOf tables) (slotsOf group) (orderOf tables) (now reach) (outsOf group) (now goods) ⌝ }
     requires { ⌜ Long (now left) (now best) (now pat) ⌝ }
     requires { ⌜ length (now groups) ≡ 1024 ⌝ }
-    ensures { λ _. ⌜ PlaceDone p i c q g (now (kinds .entry)) (now (counts .entry)) (now (firsts .entry)) (now (src .entry)) (now (order .entry)) (now (reach .entry)) (now (outs .entry)) (now (goods .entry)) (now (left .entry)) (now (best .entry)) (now (pat .entry)) (now (groups .entry)) (now (left .exit)) (now (best .exit)) (now (pat .exit)) (now (groups .exit)) ⌝ }
-    ensures { λ _. ⌜ Back (now (goods .entry)) (now (vals .exit)) (now (marks .exit)) (now (changed .exit)) ⌝ }
+    ensures { λ _. ⌜ PlaceDone p (trial .inputs) (trial .cells) (trial .chunk) (trial .at) (kindsOf (bytes .entry)) (countsOf (bytes .entry)) (firstsOf (tables .entry)) (slotsOf (group .entry)) (orderOf (tables .entry)) (now (reach .entry)) (outsOf (group .entry)) (now (goods .entry)) (now (left .entry)) (now (best .entry)) (now (pat .entry)) (now (groups .entry)) (now (left .exit)) (now (best .exit)) (now (pat .exit)) (now (groups .exit)) ⌝ }
+    ensures { λ _. ⌜ now (vals .exit) ≡ now (goods .entry) ⌝ }
 {
-    let u = groups[p] & g;
+    let u = groups[p] & trial.at;
     if u != 0 {
+        let mut t = trial;
+        t.at = u;
         try_cell(
-            i,
-            c,
             p,
-            q,
-            u,
-            kinds,
-            counts,
-            firsts,
-            src,
-            order,
+            t,
+            bytes,
+            tables,
+            group,
             reach,
-            heads,
-            readers,
-            outs,
             goods,
             vals,
-            marks,
-            changed,
             left,
             best,
             pat,
         );
-        groups[p] = left_of(i, c, p, counts, firsts, src, order, left);
+        groups[p] = left_of(
+            trial.inputs,
+            trial.cells,
+            p,
+            bytes[COUNT],
+            tables[FIRST],
+            group[SLOT],
+            tables[ORDER],
+            left,
+        );
     }
 }
 
-// Tries the faults of all cells that are open at an output of g.
-pub fn try_places(
-    i: usize,
-    c: usize,
-    q: usize,
-    g: u64,
-    kinds: &[u8],
-    counts: &[u8],
-    firsts: &[u16],
-    src: &[u16],
-    order: &[u16],
-    reach: &[u64],
-    heads: &[u16],
-    readers: &[u16],
-    outs: &[u16],
-    goods: &[u64],
-    vals: &mut [u64],
-    marks: &mut [u64],
-    changed: &mut [u64],
-    left: &mut [u64],
-    best: &mut [u8],
-    pat: &mut [u32],
-    groups: &mut [u64],
+// Tries the faults of all cells that are open at an output that is asked for.
+pub fn try_places<'a, 'b>(
+    trial: Trial,
+    bytes: [&'a [u8]; 3],
+    tables: [&'a [u16]; 5],
+    group: [&'b [u16]; 3],
+    reach: &[u64; CELLS],
+    goods: &[u64; WORDS],
+    vals: &mut [u64; WORDS],
+    left: &mut [u64; FAULTS],
+    best: &mut [u8; FAULTS],
+    pat: &mut [u32; FAULTS],
+    groups: &mut [u64; CELLS],
 )
-    requires { ⌜ Chip c (now kinds) (now counts) (now firsts) (now src) (now order) (now reach) (now heads) (now readers) ⌝ }
-    requires { ⌜ Apart i c (now counts) (now firsts) (now src) (now order) ⌝ }
-    requires { ⌜ Back (now goods) (now vals) (now marks) (now changed) ⌝ }
-    requires { ⌜ GoodRun c q g (now kinds) (now counts) (now firsts) (now src) (now order) (now reach) (now outs) (now goods) ⌝ }
+    requires { ⌜ Chip (trial .cells) (kindsOf bytes) (countsOf bytes) (firstsOf tables) (slotsOf group) (orderOf tables) (now reach) (headsOf tables) (readersOf tables) ⌝ }
+    requires { ⌜ Apart (trial .inputs) (trial .cells) (countsOf bytes) (firstsOf tables) (slotsOf group) (orderOf tables) ⌝ }
+    requires { ⌜ now vals ≡ now goods ⌝ }
+    requires { ⌜ GoodRun (trial .cells) (trial .chunk) (trial .at) (kindsOf bytes) (countsOf bytes) (firstsOf tables) (slotsOf group) (orderOf tables) (now reach) (outsOf group) (now goods) ⌝ }
     requires { ⌜ Long (now left) (now best) (now pat) × (length (now groups) ≡ 1024) ⌝ }
-    ensures { λ _. ⌜ PlacesDone c i c q g (now (kinds .entry)) (now (counts .entry)) (now (firsts .entry)) (now (src .entry)) (now (order .entry)) (now (reach .entry)) (now (outs .entry)) (now (goods .entry)) (now (left .entry)) (now (best .entry)) (now (pat .entry)) (now (groups .entry)) (now (left .exit)) (now (best .exit)) (now (pat .exit)) (now (groups .exit)) ⌝ }
-    ensures { λ _. ⌜ Back (now (goods .entry)) (now (vals .exit)) (now (marks .exit)) (now (changed .exit)) ⌝ }
+    ensures { λ _. ⌜ PlacesDone (trial .cells) (trial .inputs) (trial .cells) (trial .chunk) (trial .at) (kindsOf (bytes .entry)) (countsOf (bytes .entry)) (firstsOf (tables .entry)) (slotsOf (group .entry)) (orderOf (tables .entry)) (now (reach .entry)) (outsOf (group .entry)) (now (goods .entry)) (now (left .entry)) (now (best .entry)) (now (pat .entry)) (now (groups .entry)) (now (left .exit)) (now (best .exit)) (now (pat .exit)) (now (groups .exit)) ⌝ }
+    ensures { λ _. ⌜ now (vals .exit) ≡ now (goods .entry) ⌝ }
 {
+    let c = trial.cells;
     for p in 0..c {
         try_place(
-            i,
-            c,
             p,
-            q,
-            g,
-            kinds,
-            counts,
-            firsts,
-            src,
-            order,
+            trial,
+            bytes,
+            tables,
+            group,
             reach,
-            heads,
-            readers,
-            outs,
             goods,
             vals,
-            marks,
-            changed,
             left,
             best,
             pat,

@@ -23,6 +23,7 @@ use chip::wide8;
 use opening::Chip;
 use opening::Opening;
 use structure::Shape;
+use verdicts::Span;
 use walk::Walk;
 
 // What was found of all faults of an open chip, with the places of the patterns' variables in a play.
@@ -89,15 +90,11 @@ fn answer_alone(opened: Chip, f: usize, room: usize) -> Searched
     let wides = verdicts::judge(
         z,
         s,
-        f,
-        f + 1,
-        &opened.kinds,
-        &opened.counts,
+        Span { from: f, to: f + 1 },
+        [&opened.kinds, &opened.counts],
         &opened.firsts,
-        &opened.nets,
         &opened.order,
-        &opened.branches,
-        &opened.block,
+        [&opened.nets, &opened.branches, &opened.block],
         &opened.reached,
         &mut sites,
         &mut widths,
@@ -176,15 +173,14 @@ pub fn survey(opened: Chip) -> Findings
     let wides = verdicts::judge(
         z,
         s,
-        0,
-        2 * (z.inputs + z.cells + z.pins),
-        &opened.kinds,
-        &opened.counts,
+        Span {
+            from: 0,
+            to: 2 * (z.inputs + z.cells + z.pins),
+        },
+        [&opened.kinds, &opened.counts],
         &opened.firsts,
-        &opened.nets,
         &opened.order,
-        &opened.branches,
-        &opened.block,
+        [&opened.nets, &opened.branches, &opened.block],
         &opened.reached,
         &mut sites,
         &mut widths,

@@ -75,8 +75,8 @@ fn fault_slot(byte: u8, good: u16) -> u16
 }
 
 // The slots of the n pins in the faulty circuit.
-pub fn fault_slots(n: usize, decided: &[u8; PINS], good: &Nets, faulty: &mut [u16])
-    requires { ⌜ (n ≤ 4096) × (length (now faulty) ≡ 4096) ⌝ }
+pub fn fault_slots(n: usize, decided: &[u8; PINS], good: &[u16], faulty: &mut [u16; PINS])
+    requires { ⌜ (n ≤ 4096) × (length (now faulty) ≡ 4096) × (n ≤ length (now good)) ⌝ }
     ensures { λ _. ⌜ FaultSlots n (now (decided .entry)) (now (good .entry)) (now (faulty .exit)) ⌝ }
 {
     for p in 0..n {

@@ -3,11 +3,12 @@ use Prim.Native.Nat.{ℕ, _+_, _-_, _*_, _/_, _^_, _≤_, _<_}
 use mathlib.Core.Path.{_≡_, sym, ap, _∙_, subst}
 use mathlib.Core.Logic.{_≢_}
 use mathlib.Core.Bool.{true, false, cond, false≢true}
-use mathlib.Core.List.{List}
+use mathlib.Core.List.{List, _++_}
 use native.Mathlib.Omega.{arith}
 use native.Mathlib.Decide.{ℕ-discrete, decLt}
 use borrow.Author.Tests.{le-ltb}
-use lib.ListN.{length, getD}
+use lib.ListN.{length, getD, take, replicate, length-append, length-replicate}
+use lib.Seq.{length-take-le, take-at}
 use lib.Bits.{bitAnd}
 use Rattle.chip.specs.Netlist.{Netlist, outPin, allPins}
 use Rattle.chip.specs.Inner.Limits.{InLimits}
@@ -22,10 +23,29 @@ use Rattle.slots.specs.Slots.{relOf}
 use Rattle.walk.specs.Walk.{widthOf}
 use Rattle.known.specs.Setting.{Shows}
 use Rattle.outputs.specs.Groups.{Sofar}
+use Rattle.benches.specs.Benches.{Fitted}
 use Rattle.groups.specs.Chunks.{Store}
 use Rattle.outputs.specs.Sites.{SiteMasks, Widths, WideWord, Started, sizeOf}
 use Rattle.outputs.proofs.Wide.{not-wide}
 use Rattle.verdicts.specs.Verdicts.{Sought, AllSofar, Judged}
+
+-- ---- readers are the first entries of a table that has room for more
+
+pub part-count : (m : ℕ) (readers : List ℕ) → m ≤ 4096 → length readers ≡ length (take m (replicate {A = ℕ} 4096 0)) → length readers ≡ m
+part-count m readers h e = e ∙ length-take-le m (replicate 4096 0) (omega (arith, h, length-replicate {A = ℕ} 4096 0))
+
+pub part-room : (m : ℕ) (readers rest : List ℕ) → length readers ≡ m → m ≤ length (readers ++ rest)
+part-room m readers rest l = omega (arith, l, length-append readers rest)
+
+pub part-long : (m : ℕ) (readers rest : List ℕ) → length readers ≡ m → m ≡ length (take m (readers ++ rest))
+part-long m readers rest l = sym (ap length (take-at readers rest m l) ∙ l)
+
+pub part-fitted : {i c o n : ℕ} {kinds counts firsts nets order branches block cone reach heads readers input : List ℕ} (m : ℕ) (rest : List ℕ)
+    → Fitted i c o n kinds counts firsts nets order branches block cone reach heads readers input → m ≤ 4096 → length readers ≡ length (take m (replicate {A = ℕ} 4096 0))
+    → Fitted i c o n kinds counts firsts nets order branches block cone reach heads (take m (readers ++ rest)) input
+part-fitted {readers = readers} m rest F h e = rw (take-at readers rest m (part-count m readers h e)) F
+
+-- ---- words
 
 -- two tables of zeros with the ones in their slot
 pub store-blank : (c : ℕ) (a goods vals : List ℕ) → length a ≡ 16672 → ((x : ℕ) → getD a x 0 ≡ 0) → Filled 16656 16 (λ k. 2 ^ 64 - 1) a goods → Filled 16656 16 (λ k. 2 ^ 64 - 1) a vals → Store c goods vals

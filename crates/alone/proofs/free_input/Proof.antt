@@ -14,33 +14,23 @@ Inv-loop x w list input goods vals₀ k₀ vals k = (k ≤ w) × VarsPut k x lis
 abbrev μ-loop : tie.MeasureT-loop
 μ-loop x w list input goods vals₀ k₀ vals k = w - k
 
--- src/lib.rt:260:5
 loop-holds : tie.Need-loop-holds Inv-loop μ-loop
-loop-holds c = let a = c .before .before .before .before .args in (omega arith, vars-none (a .x) (a .list .now) (a .input .now) (λ k j. getD (a .goods .now) (16 * k + j) 0) _)
+loop-holds c = let a = c .before .before .args in (omega arith, vars-none (a .x) (a .list .now) (a .input .now) (λ k j. getD (a .goods .now) (16 * k + j) 0) _)
 
--- src/lib.rt:261:9
 free-one-requires : tie.Need-free-one-requires Inv-loop μ-loop
-free-one-requires c κs = let s = c .before .before .before .before .before .before .before in let l = c .before .before .loop in let t = c .before .loop-test .taken in ((omega (arith, t, s .pre .0 .0), s .pre .0 .1, l .inv .1 .long ∙ s .pre .0 .2), (omega (arith, t, s .pre .1 .0), s .pre .1 .1 (l .k) t))
+free-one-requires c κs = let s = c .before .before .before .before .before in let l = c .before .before .loop in let t = c .before .loop-test .taken in ((omega (arith, t, s .pre .0 .0), s .pre .0 .1, l .inv .1 .long ∙ s .pre .0 .2), (omega (arith, t, s .pre .1 .0), s .pre .1 .1 (l .k) t))
 
--- src/lib.rt:260:9
 add-k : tie.Need-add-k Inv-loop μ-loop
-add-k c = let s = c .before .before .before .before .before .before .before .before .before .before in omega (arith, c .before .before .before .before .loop-test .taken, s .pre .0 .0)
+add-k c = let s = c .before .before .before .before .before .before in omega (arith, c .before .before .loop-test .taken, s .pre .0 .0)
 
--- src/lib.rt:260:5
 loop-less : tie.Need-loop-less Inv-loop μ-loop
-loop-less c = omega (arith, c .before .before .before .before .loop-test .taken)
+loop-less c = omega (arith, c .before .before .loop-test .taken)
 
--- src/lib.rt:260:5
 loop-again : tie.Need-loop-again Inv-loop μ-loop
-loop-again c = let a = c .before .before .before .before .before .before .before .before .before .before .args in let l = c .before .before .before .before .before .loop in (omega (arith, c .before .before .before .before .loop-test .taken), vars-more (a .x) (a .list .now) (a .input .now) (λ k j. getD (a .goods .now) (16 * k + j) 0) (l .k) _ _ _ (l .inv .1) (c .before .before .free-one .ensures))
+loop-again c = let a = c .before .before .before .before .before .before .args in let l = c .before .before .before .loop in (omega (arith, c .before .before .loop-test .taken), vars-more (a .x) (a .list .now) (a .input .now) (λ k j. getD (a .goods .now) (16 * k + j) 0) (l .k) _ _ _ (l .inv .1) (c .free-one .ensures))
 
--- src/lib.rt:248:1
-same-length : tie.Need-same-length Inv-loop μ-loop
-same-length c = c .before .loop .inv .1 .long
-
--- src/lib.rt:248:1
 returns : tie.Need-returns Inv-loop μ-loop
-returns c = let l = c .before .loop in let e : l .k ≡ c .before .before .before .before .before .before .args .w = omega (arith, l .inv .0, c .loop-test .left) in rw e at (l .inv .1)
+returns c = let l = c .before .loop in let e : l .k ≡ c .before .before .before .before .args .w = omega (arith, l .inv .0, c .loop-test .left) in rw e at (l .inv .1)
 
 pub free-input-spec : {M : Type 1} → statement M
 free-input-spec =
@@ -53,5 +43,4 @@ free-input-spec =
     add-k
     loop-less
     loop-again
-    same-length
     returns)

@@ -7,41 +7,29 @@ use borrow.Author.Needs.{needs}
 use Rattle.alone.proofs.free_one.Statement.{statement}
 use Rattle.alone.proofs.free_one.Tie as tie
 
--- src/lib.rt:242:25
 mul-wide : tie.Need-mul-wide
 mul-wide c = search needs
 
--- src/lib.rt:242:25
 shared-slice-read-wide : tie.Need-shared-slice-read-wide
 shared-slice-read-wide c = search needs
 
--- src/lib.rt:242:20
 wide-requires : tie.Need-wide-requires
 wide-requires c κs = search needs
 
--- src/lib.rt:242:14
 shared-slice-read-wide8 : tie.Need-shared-slice-read-wide8
 shared-slice-read-wide8 c = search needs
 
--- src/lib.rt:242:8
 wide8-requires : tie.Need-wide8-requires
 wide8-requires c κs = search needs
 
--- src/lib.rt:243:9
 restore-slot-requires : tie.Need-restore-slot-requires
 restore-slot-requires c κs = search needs
 
--- src/lib.rt:237:1
-same-length : tie.Need-same-length
-same-length c = search needs
-
--- src/lib.rt:237:1
 returns : tie.Need-returns
-returns c = let a = c .before .before .before .before .before .before .before .before .before .before .before .before .before .args in var-put (a .x) (a .list .now) (a .input .now) (λ k j. getD (a .goods .now) (16 * k + j) 0) (a .k) _ _ _ (c .before .before .before .before .before .before .before .wide .ensures) (sym (c .before .before .before .before .before .wide8 .ensures) ∙ c .before .before .before .before .if1 .taken) (c .before .before .restore-slot .ensures)
+returns c = let a = c .before .before .before .before .before .before .before .before .before .before .args in var-put (a .x) (a .list .now) (a .input .now) (λ k j. getD (a .goods .now) (16 * k + j) 0) (a .k) _ _ _ (c .before .before .before .before .before .before .wide .ensures) (sym (c .before .before .before .before .wide8 .ensures) ∙ c .before .before .before .if1 .taken) (c .restore-slot .ensures)
 
--- src/lib.rt:237:1
 returns-2 : tie.Need-returns-2
-returns-2 c = let a = c .before .before .before .before .before .before .before .before .before .args in var-same (a .x) (a .list .now) (a .input .now) (λ k j. getD (a .goods .now) (16 * k + j) 0) (a .k) (c .before .before .before .wide .result) _ (c .before .before .before .wide .ensures) (λ y. c .if1 .left (c .before .wide8 .ensures ∙ y))
+returns-2 c = let a = c .before .before .before .before .before .before .before .args in var-same (a .x) (a .list .now) (a .input .now) (λ k j. getD (a .goods .now) (16 * k + j) 0) (a .k) (c .before .before .before .wide .result) _ (c .before .before .before .wide .ensures) (λ y. c .if1 .left (c .before .wide8 .ensures ∙ y))
 
 pub free-one-spec : {M : Type 1} → statement M
 free-one-spec =
@@ -53,6 +41,5 @@ free-one-spec =
     shared-slice-read-wide8
     wide8-requires
     restore-slot-requires
-    same-length
     returns
     returns-2)

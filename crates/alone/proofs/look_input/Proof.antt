@@ -1,115 +1,105 @@
--- The run changes only the input's variables and the places marked as changed, so freeing and undoing bring all words back.
-use mathlib.Core.Path.{sym, ap, _∙_}
+-- The run changes only the input's variables and the places marked as changed, so freeing the one and restoring the others brings all words back.
+use mathlib.Core.Path.{_∙_}
 use native.Mathlib.Omega.{arith}
-use lib.ListN.{length}
-use Rattle.alone.proofs.Inputs.{freed-agree, all-back}
+use Rattle.cells.proofs.Trying.{same-table, clear-blank}
+use Rattle.alone.proofs.Inputs.{freed-agree}
+use borrow.Author.Needs.{needs}
 use Rattle.alone.proofs.look_input.Statement.{statement}
 use Rattle.alone.proofs.look_input.Tie as tie
 
--- each step back is named after where it leads: to the start, to the parameters known, to the run, to the look at it, to the input freed, and to the undone run
-abbrev start : tie.After-slice-known6 → tie.Start
-start c = c .before .before .before .before .before .before .before .before .before .before .before .before .before .before .before .before .before .before
-
-abbrev entered : tie.After-run-input → tie.After-slice-known6
-entered c = c .before .before .before .before
+-- each step back is named after where it leads: to the start, to the run, to the look at it, and to the input freed
+abbrev start : tie.After-run-input → tie.Start
+start c = c .before .before .before .before
 
 abbrev ran : tie.After-look-all → tie.After-run-input
-ran c = c .before .before .before .before .before .before .before .before .before .before .before
+ran c = c .before .before .before .before .before .before .before .before .before
 
 abbrev looked : tie.After-free-input → tie.After-look-all
-looked c = c .before .before .before .before .before .before .before .before
+looked c = c .before .before .before .before
 
-abbrev freed : tie.After-undo → tie.After-free-input
-freed c = c .before .before .before .before .before .before
-
-abbrev undone : tie.After-slice-known16 → tie.After-undo
-undone c = c .before .before .before .before .before .before
+abbrev freed : tie.After-restore → tie.After-free-input
+freed c = c .before .before .before .before .before
 
 run-input-requires : tie.Need-run-input-requires
-run-input-requires c κs = let s = start (c .before .before .before) in (s .pre .0, (s .pre .1 .0, (s .pre .1 .1 .0, s .pre .1 .1 .1 .0)))
+run-input-requires c κs =
+    let s = c .before .before .before in
+    let p = s .pre .1 .1 .0 in
+    (s .pre .0, (s .pre .1 .0, ((p .0, p .1, clear-blank, clear-blank), s .pre .1 .1 .1 .0)))
+
+array-copy-out-look-all : tie.Need-array-copy-out-look-all
+array-copy-out-look-all c = search needs
+
+array-copy-out-look-all-2 : tie.Need-array-copy-out-look-all-2
+array-copy-out-look-all-2 c = search needs
 
 look-all-requires : tie.Need-look-all-requires
 look-all-requires c κs =
-    let r = c .before .before .before .before .before .before .before .before .before .before in
-    let s = start (entered r) in
+    let r = c .before .before .before .before .before .before .before .before in
+    let s = start r in
     let p = s .pre .1 .1 .1 .1 .0 in
     let X = r .run-input .ensures .0 in (
       (p .0, p .1, p .2, p .2, λ z zl. (omega (arith, p .3 z zl, s .pre .1 .1 .0 .0), omega (arith, p .3 z zl, X .long, s .pre .1 .1 .0 .0))),
       s .pre .1 .1 .1 .1 .1,
     )
 
+array-copy-out-free-input : tie.Need-array-copy-out-free-input
+array-copy-out-free-input c = search needs
+
+array-copy-out-free-input-2 : tie.Need-array-copy-out-free-input-2
+array-copy-out-free-input-2 c = search needs
+
 free-input-requires : tie.Need-free-input-requires
 free-input-requires c κs =
-    let r = ran (c .before .before .before .before .before .before .before) in
-    let s = start (entered r) in
+    let r = ran (c .before .before .before) in
+    let s = start r in
     let R = s .pre .1 .0 in
     let X = r .run-input .ensures .0 in
     ((R .few, s .pre .1 .1 .0 .0, X .long ∙ s .pre .1 .1 .0 .0), (R .listed, R .known))
 
-undo-requires : tie.Need-undo-requires
-undo-requires c κs =
-    let f = c .before .before .before .before .before in
+array-copy-out-restore : tie.Need-array-copy-out-restore
+array-copy-out-restore c = search needs
+
+slice-aggregate-restore : tie.Need-slice-aggregate-restore
+slice-aggregate-restore c = search needs
+
+restore-requires : tie.Need-restore-requires
+restore-requires c κs =
+    let f = c .before .before .before .before in
     let r = ran (looked f) in
-    let s = start (entered r) in
+    let s = start r in
     let C = s .pre .0 in
     let X = r .run-input .ensures in
     let P = f .free-input .ensures in (
-      (C .few, C .listed, C .cell),
+      (omega arith, C .few, C .listed, C .cell),
       (
-        (P .long ∙ X .0 .long ∙ s .pre .1 .1 .0 .0, s .pre .1 .1 .0 .0, X .1, X .0 .long-changed),
-        (
-          X .0 .bounded,
-          freed-agree _ _ _ _ _ _ _ _ _ _ _ _ _ _ _ _ (X .0) P,
-        ),
+        (P .long ∙ X .0 .long ∙ s .pre .1 .1 .0 .0, s .pre .1 .1 .0 .0, X .0 .long-changed),
+        (X .0 .bounded, (λ t m. omega arith, freed-agree _ _ _ _ _ _ _ _ _ _ _ _ _ _ _ _ (X .0) P)),
       ),
     )
 
--- what is found, and all as before
-whole : tie.Need-returns
-whole c =
-    let u = undone c in
-    let f = freed u in
-    let k = looked f in
-    let X = ran k .run-input .ensures in
-    let P = f .free-input .ensures in
-    let U = u .undo .ensures in (
-      record { vals = _; changed = _; ran = X .0; looked = k .look-all .ensures },
-      all-back _ _ _ _ _ (P .long ∙ X .0 .long) (U .0) (U .1 .0) (U .1 .1),
-    )
-
-same-length : tie.Need-same-length
-same-length c = ap length (whole c .1 .words ∙ sym (start (entered (ran (looked (freed (undone c))))) .pre .1 .1 .0 .1 .words))
-
-same-length-2 : tie.Need-same-length-2
-same-length-2 c = whole c .1 .marks-clear .long ∙ sym (start (entered (ran (looked (freed (undone c))))) .pre .1 .1 .0 .1 .marks-clear .long)
-
-same-length-3 : tie.Need-same-length-3
-same-length-3 c = whole c .1 .changed-clear .long ∙ sym (start (entered (ran (looked (freed (undone c))))) .pre .1 .1 .0 .1 .changed-clear .long)
-
-same-length-4 : tie.Need-same-length-4
-same-length-4 c = looked (freed (undone c)) .look-all .ensures .long-left
-
-same-length-5 : tie.Need-same-length-5
-same-length-5 c = looked (freed (undone c)) .look-all .ensures .long-best
-
-same-length-6 : tie.Need-same-length-6
-same-length-6 c = looked (freed (undone c)) .look-all .ensures .long-pat
-
 returns : tie.Need-returns
-returns c = whole c
+returns c =
+    let f = freed c in
+    let l = looked f in
+    let X = ran l .run-input .ensures in
+    let P = f .free-input .ensures in
+    let R = c .restore .ensures in (
+      record { vals = _; changed = _; ran = X .0; looked = l .look-all .ensures },
+      same-table _ _ (R .long ∙ P .long ∙ X .0 .long) (R .good),
+    )
 
 pub look-input-spec : {M : Type 1} → statement M
 look-input-spec =
     tie.close
     (tie.spec
     run-input-requires
+    array-copy-out-look-all
+    array-copy-out-look-all-2
     look-all-requires
+    array-copy-out-free-input
+    array-copy-out-free-input-2
     free-input-requires
-    undo-requires
-    same-length
-    same-length-2
-    same-length-3
-    same-length-4
-    same-length-5
-    same-length-6
+    array-copy-out-restore
+    slice-aggregate-restore
+    restore-requires
     returns)

@@ -7,18 +7,12 @@ use borrow.Author.Needs.{needs}
 use Rattle.alone.proofs.run_input.Statement.{statement}
 use Rattle.alone.proofs.run_input.Tie as tie
 
--- each step back is named after where it leads: to the start, to the constant loaded, to the variables set, and to the run
+-- each step back is named after where it leads
 abbrev start : tie.After-load → tie.Start
-start c = c .before .before .before .before .before .before .before .before .before .before .before .before .before .before .before .before
+start c = c .before .before .before
 
 abbrev loaded : tie.After-set-input → tie.After-load
 loaded c = c .before .before .before .before .before
-
-abbrev put : tie.After-run → tie.After-set-input
-put c = c .before .before .before .before .before .before .before .before
-
-abbrev ran : tie.After-slice-known8 → tie.After-run
-ran c = c .before .before .before .before .before .before
 
 add-load : tie.Need-add-load
 add-load c = search needs
@@ -29,57 +23,42 @@ slice-aggregate-load c = search needs
 load-requires : tie.Need-load-requires
 load-requires c κs = search needs
 
-slice-aggregate-set-input : tie.Need-slice-aggregate-set-input
-slice-aggregate-set-input c = search needs
-
 set-input-requires : tie.Need-set-input-requires
 set-input-requires c κs =
     let d = c .before .before .before .before in
     let s = start d in
-    let B = s .pre .1 .1 .0 .1 in
-    (s .pre .0, (s .pre .1 .0, (d .load .ensures .long, ap length (B .words) ∙ s .pre .1 .1 .0 .0, B .marks-clear .long)))
+    let B = s .pre .1 .1 .0 in
+    (s .pre .0, (s .pre .1 .0, (d .load .ensures .long, ap length (B .1) ∙ s .pre .1 .1 .0 .0, B .2 .long)))
+
+array-copy-out-run : tie.Need-array-copy-out-run
+array-copy-out-run c = search needs
 
 run-requires : tie.Need-run-requires
 run-requires c κs =
-    let v = c .before .before .before .before .before .before .before in
+    let v = c .before .before .before .before in
     let d = loaded v in
     let s = start d in
-    let B = s .pre .1 .1 .0 .1 in
+    let B = s .pre .1 .1 .0 in
     let E = v .set-input .ensures in (
       s .pre .0,
       (
-        (omega arith, E .0 .long ∙ ap length (B .words) ∙ s .pre .1 .1 .0 .0, E .1 .long, B .changed-clear .long),
-        input-marked _ _ _ _ _ _ _ _ _ _ _ _ _ _ _ (s .pre .0) (s .pre .1 .0) (s .pre .1 .1 .1) _ _ _ _ _ (d .load .ensures) (rw (B .words) at (E .0)) (E .1)
-            (B .marks-clear),
+        (omega arith, E .0 .long ∙ ap length (B .1) ∙ s .pre .1 .1 .0 .0, E .1 .long, B .3 .long),
+        input-marked _ _ _ _ _ _ _ _ _ _ _ _ _ _ _ (s .pre .0) (s .pre .1 .0) (s .pre .1 .1 .1) _ _ _ _ _ (d .load .ensures) (rw (B .1) at (E .0)) (E .1)
+            (B .2),
       ),
     )
-
-same-length : tie.Need-same-length
-same-length c = let r = ran c in r .run .ensures .0 .long ∙ put r .set-input .ensures .0 .long
-
-same-length-2 : tie.Need-same-length-2
-same-length-2 c =
-    let r = ran c in
-    let s = start (loaded (put r)) in
-    omega (arith, r .run .ensures .1, s .pre .1 .1 .0 .1 .marks-clear .long)
-
-same-length-3 : tie.Need-same-length-3
-same-length-3 c =
-    let r = ran c in
-    let s = start (loaded (put r)) in
-    omega (arith, r .run .ensures .0 .long-changed, s .pre .1 .1 .0 .1 .changed-clear .long)
 
 -- a rewrite does not see through a named step, so one step here is written out: v is where the variables are set
 returns : tie.Need-returns
 returns c =
-    let r = ran c in
-    let v = c .before .before .before .before .before .before .before .before .before .before .before .before .before .before in
+    let r = c in
+    let v = c .before .before .before .before .before in
     let d = loaded v in
     let s = start d in
-    let B = s .pre .1 .1 .0 .1 in
+    let B = s .pre .1 .1 .0 in
     let E = v .set-input .ensures in (
-      input-ran _ _ _ _ _ _ _ _ _ _ _ _ _ _ _ (s .pre .0) (s .pre .1 .0) (s .pre .1 .1 .1) _ _ _ _ _ (d .load .ensures) (rw (B .words) at (E .0)) (E .1) (B .marks-clear)
-          _ _ _ (B .changed-clear) (r .run .ensures .0),
+      input-ran _ _ _ _ _ _ _ _ _ _ _ _ _ _ _ (s .pre .0) (s .pre .1 .0) (s .pre .1 .1 .1) _ _ _ _ _ (d .load .ensures) (rw (B .1) at (E .0)) (E .1) (B .2)
+          _ _ _ (B .3) (r .run .ensures .0),
       r .run .ensures .1,
     )
 
@@ -90,10 +69,7 @@ run-input-spec =
     add-load
     slice-aggregate-load
     load-requires
-    slice-aggregate-set-input
     set-input-requires
+    array-copy-out-run
     run-requires
-    same-length
-    same-length-2
-    same-length-3
     returns)

@@ -5,25 +5,39 @@ use native.Mathlib.Omega.{arith}
 use lib.ListN.{getD}
 use Rattle.alone.specs.Alone.{VarsPut, VarsMarked}
 use Rattle.alone.proofs.Inputs.{vars-none, vars-more, marks-none, marks-more}
+use borrow.Author.Needs.{needs}
 use Rattle.alone.proofs.set_input.Statement.{statement}
 use Rattle.alone.proofs.set_input.Tie as tie
 
 abbrev Inv-loop : tie.InvT-loop
-Inv-loop x c w u kinds counts firsts src order reach heads readers acc list input vals₀ marks₀ k₀ vals marks k = (k ≤ w) × VarsPut k x list input (λ k j. getD acc j 0) vals₀ vals × VarsMarked k x u list input heads readers reach marks₀ marks
+Inv-loop x trial bytes tables group reach acc vals₀ marks₀ list input heads readers w k₀ vals marks k =
+    (k ≤ w) × VarsPut k x list input (λ k j. getD acc j 0) vals₀ vals × VarsMarked k x (trial .at) list input heads readers reach marks₀ marks
 
 abbrev μ-loop : tie.MeasureT-loop
-μ-loop x c w u kinds counts firsts src order reach heads readers acc list input vals₀ marks₀ k₀ vals marks k = w - k
+μ-loop x trial bytes tables group reach acc vals₀ marks₀ list input heads readers w k₀ vals marks k = w - k
 
 -- back from the loop to the start
 abbrev start : tie.At-loop Inv-loop μ-loop → tie.Start Inv-loop μ-loop
-start c = c .before .before .before .before .before .before .before .before .before .before .before .before .before .before
+start c = c .before .before .before .before .before
+
+array-copy-out-list : tie.Need-array-copy-out-list Inv-loop μ-loop
+array-copy-out-list c = search needs
+
+array-copy-out-input : tie.Need-array-copy-out-input Inv-loop μ-loop
+array-copy-out-input c = search needs
+
+array-copy-out-heads : tie.Need-array-copy-out-heads Inv-loop μ-loop
+array-copy-out-heads c = search needs
+
+array-copy-out-readers : tie.Need-array-copy-out-readers Inv-loop μ-loop
+array-copy-out-readers c = search needs
 
 loop-holds : tie.Need-loop-holds Inv-loop μ-loop
 loop-holds c =
-    let s = c .before .before .before .before .before .before .before .before .before .before .before .before .before in
+    let s = c .before .before .before .before in
     let a = s .args in (
       omega arith,
-      vars-none (a .x) (a .list .now) (a .input .now) (λ k j. getD (a .acc .now) j 0) _,
+      vars-none (a .x) _ _ (λ k j. getD (a .acc .now) j 0) _,
       marks-none _ _ _ _ _ _ _ _ (s .pre .1 .1 .2),
     )
 
@@ -45,16 +59,16 @@ set-one-requires c κs =
 
 add-k : tie.Need-add-k Inv-loop μ-loop
 add-k c =
-    let t = c .before .before .before .before .before .before .before in
+    let t = c .before .before .before in
     let s = start (t .before) in
     omega (arith, t .loop-test .taken, s .pre .1 .0 .few)
 
 loop-less : tie.Need-loop-less Inv-loop μ-loop
-loop-less c = omega (arith, c .before .before .before .before .before .before .before .loop-test .taken)
+loop-less c = omega (arith, c .before .before .before .loop-test .taken)
 
 loop-again : tie.Need-loop-again Inv-loop μ-loop
 loop-again c =
-    let v = c .before .before .before .before in
+    let v = c in
     let t = v .before .before .before in
     let g = t .before in
     let a = start g .args in
@@ -64,16 +78,10 @@ loop-again c =
       marks-more _ _ _ _ _ _ _ _ _ _ _ (l .inv .2) (v .set-one .ensures .1),
     )
 
-same-length : tie.Need-same-length Inv-loop μ-loop
-same-length c = c .before .loop .inv .1 .long
-
-same-length-2 : tie.Need-same-length-2 Inv-loop μ-loop
-same-length-2 c = let s = start (c .before) in omega (arith, c .before .loop .inv .2 .long, s .pre .1 .1 .2)
-
 returns : tie.Need-returns Inv-loop μ-loop
 returns c =
     let l = c .before .loop in
-    let e : l .k ≡ start (c .before) .args .w = omega (arith, l .inv .0, c .loop-test .left) in
+    let e : l .k ≡ start (c .before) .args .trial .width = omega (arith, l .inv .0, c .loop-test .left) in
     (rw e at (l .inv .1), rw e at (l .inv .2))
 
 pub set-input-spec : {M : Type 1} → statement M
@@ -82,11 +90,13 @@ set-input-spec =
     (tie.spec
     Inv-loop
     μ-loop
+    array-copy-out-list
+    array-copy-out-input
+    array-copy-out-heads
+    array-copy-out-readers
     loop-holds
     set-one-requires
     add-k
     loop-less
     loop-again
-    same-length
-    same-length-2
     returns)

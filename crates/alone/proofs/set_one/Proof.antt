@@ -10,10 +10,10 @@ use Rattle.alone.proofs.set_one.Tie as tie
 
 -- each step back is named after where it leads: to the start, and to the block read
 abbrev start : tie.After-wide → tie.Start
-start c = c .before .before .before .before .before .before .before .before .before .before
+start c = c .before .before .before .before .before .before
 
 abbrev read : tie.After-store → tie.After-wide
-read c = c .before .before .before .before .before
+read c = c .before .before .before .before .before .before
 
 mul-wide : tie.Need-mul-wide
 mul-wide c = search needs
@@ -56,32 +56,26 @@ wide-requires-3 c κs = search needs
 
 mark-requires : tie.Need-mark-requires
 mark-requires c κs =
-    let b = read (c .before .before .before .before .before .before .before) in
+    let b = read (c .before .before .before .before .before .before) in
     let s = start b in
     let a = s .args in
     let e = ap (λ x. getD (a .heads .now) x 0) (b .wide .ensures) in
     let h = ap (λ x. getD (a .heads .now) (x + 1) 0) (b .wide .ensures) in (
-      omega (arith, e, h, c .before .before .before .wide2 .ensures, c .before .wide3 .ensures, s .pre .1 .0 .3),
-      omega (arith, h, c .before .wide3 .ensures, s .pre .1 .0 .4),
+      omega (arith, e, h, c .before .before .before .before .wide2 .ensures, c .before .before .wide3 .ensures, s .pre .1 .0 .3),
+      omega (arith, h, c .before .before .wide3 .ensures, s .pre .1 .0 .4),
       s .pre .0 .3,
       s .pre .1 .1,
     )
 
-same-length : tie.Need-same-length
-same-length c = search needs
-
-same-length-2 : tie.Need-same-length-2
-same-length-2 c = search needs
-
 returns : tie.Need-returns
 returns c =
-    let w = c .before .before .before .before .before .before .before .before .before .before in
+    let w = c .before .before .before .before .before .before .before in
     let b = read w in
     let s = start b in
     let a = s .args in (
-      var-put _ _ _ (λ k j. getD (a .acc .now) j 0) _ _ _ _ (b .wide .ensures) (sym (w .before .before .before .wide8 .ensures) ∙ w .before .before .if1 .taken) (w .store .ensures),
-      var-marked _ _ _ _ _ _ _ _ (b .wide .result) _ _ _ _ (b .wide .ensures) (c .before .before .before .before .before .before .wide2 .ensures)
-          (c .before .before .before .before .wide3 .ensures) (s .pre .1 .0 .4) (c .before .before .mark .ensures),
+      var-put _ _ _ (λ k j. getD (a .acc .now) j 0) _ _ _ _ (b .wide .ensures) (sym (w .before .before .before .before .wide8 .ensures) ∙ w .before .before .before .if1 .taken) (w .store .ensures),
+      var-marked _ _ _ _ _ _ _ _ (b .wide .result) _ _ _ _ (b .wide .ensures) (c .before .before .before .before .before .wide2 .ensures)
+          (c .before .before .before .wide3 .ensures) (s .pre .1 .0 .4) (c .mark .ensures),
     )
 
 returns-2 : tie.Need-returns-2
@@ -111,7 +105,5 @@ set-one-spec =
     shared-slice-read-wide-3
     wide-requires-3
     mark-requires
-    same-length
-    same-length-2
     returns
     returns-2)

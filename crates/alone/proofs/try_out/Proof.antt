@@ -9,13 +9,13 @@ use Rattle.alone.proofs.try_out.Tie as tie
 
 -- back from where the pins are copied to the start
 abbrev start : tie.After-copy-pins → tie.Start
-start c = c .before .before .before .before .before .before .before .before .before
+start c = c .before .before .before .before .before
 
 mul-u : tie.Need-mul-u
 mul-u c = search needs
 
-slice-read-u : tie.Need-slice-read-u
-slice-read-u c = search needs
+element-copy-out-u : tie.Need-element-copy-out-u
+element-copy-out-u c = search needs
 
 slice-aggregate-copy-pins : tie.Need-slice-aggregate-copy-pins
 slice-aggregate-copy-pins c = search needs
@@ -37,7 +37,7 @@ slice-aggregate-look-all c = search needs
 
 look-all-requires : tie.Need-look-all-requires
 look-all-requires c κs =
-    let p = c .before .before .before .before .before in
+    let p = c .before .before .before .before .before .before .before in
     let s = start p in
     let a = s .args in
     let F = p .copy-pins .ensures in (
@@ -51,24 +51,15 @@ look-all-requires c κs =
       s .pre .1,
     )
 
-same-length : tie.Need-same-length
-same-length c = search needs
-
-same-length-2 : tie.Need-same-length-2
-same-length-2 c = search needs
-
-same-length-3 : tie.Need-same-length-3
-same-length-3 c = search needs
-
 returns : tie.Need-returns
 returns c =
-    let p = c .before .before .before .before .before .before .before .before .before .before .before .before in
+    let p = c .before .before .before .before .before .before .before .before in
     let s = start p in
-    out-looked _ _ _ _ _ _ _ _ _ _ _ _ _ _ _ _ (s .pre .0 .2) refl (p .copy-pins .ensures) refl (c .before .before .before .before .before .before .look-all .ensures)
+    out-looked _ _ _ _ _ _ _ _ _ _ _ _ _ _ _ _ (s .pre .0 .2) refl (p .copy-pins .ensures) refl (c .look-all .ensures)
 
 returns-2 : tie.Need-returns-2
 returns-2 c =
-    let s = c .before .before .before .before .before .before .before in
+    let s = c .before .before .before in
     out-idle _ _ _ _ _ _ _ _ _ _ (s .pre .0 .2) (s .pre .0 .4) (c .if1 .left)
 
 pub try-out-spec : {M : Type 1} → statement M
@@ -76,7 +67,7 @@ try-out-spec =
     tie.close
     (tie.spec
     mul-u
-    slice-read-u
+    element-copy-out-u
     slice-aggregate-copy-pins
     copy-pins-requires
     add-ends
@@ -84,8 +75,5 @@ try-out-spec =
     array-write-ends
     slice-aggregate-look-all
     look-all-requires
-    same-length
-    same-length-2
-    same-length-3
     returns
     returns-2)

@@ -4,37 +4,51 @@ use borrow.Author.Needs.{needs}
 use Rattle.buffers.proofs.faulty_slots.Statement.{statement}
 use Rattle.buffers.proofs.faulty_slots.Tie as tie
 
--- src/lib.rt:73:18
+array-copy-out-decided : tie.Need-array-copy-out-decided
+array-copy-out-decided c = search needs
+
+array-copy-out-decided-2 : tie.Need-array-copy-out-decided-2
+array-copy-out-decided-2 c = search needs
+
+array-copy-out-decided-3 : tie.Need-array-copy-out-decided-3
+array-copy-out-decided-3 c = search needs
+
+array-copy-out-decided-4 : tie.Need-array-copy-out-decided-4
+array-copy-out-decided-4 c = search needs
+
+array-copy-out-decided-5 : tie.Need-array-copy-out-decided-5
+array-copy-out-decided-5 c = search needs
+
+array-copy-out-decided-6 : tie.Need-array-copy-out-decided-6
+array-copy-out-decided-6 c = search needs
+
 add-fault-at : tie.Need-add-fault-at
 add-fault-at c = search needs
 
--- src/lib.rt:73:9
 fault-at-requires : tie.Need-fault-at-requires
 fault-at-requires c κs = search needs
 
--- src/lib.rt:62:5
 decided-requires : tie.Need-decided-requires
-decided-requires c κs = let s = c .before .before .before in (s .pre .0, (s .pre .1 .0, (s .pre .1 .1 .0, (s .pre .1 .1 .1 .0, s .pre .1 .1 .1 .1 .0))))
+decided-requires c κs = let s = c .before .before .before .before .before .before .before in (s .pre .0, (s .pre .1 .0, (s .pre .1 .1 .0, (s .pre .1 .1 .1 .0, (s .pre .1 .1 .1 .1 .0, s .pre .1 .1 .1 .1 .1 .1)))))
 
--- src/lib.rt:76:5
 fault-slots-requires : tie.Need-fault-slots-requires
 fault-slots-requires c κs = search needs
 
--- src/lib.rt:38:1
-same-length : tie.Need-same-length
-same-length c = search needs
-
--- src/lib.rt:38:1
 returns : tie.Need-returns
-returns c = let a = c .before .before .before .before .before .before .before .before .before .args in faulty-is (a .i) (a .c) (a .o) (a .n) (a .f) _ (a .kinds .now) (a .counts .now) (a .nets .now) (a .src .now) _ _ (c .before .before .before .before .before .before .before .fault-at .ensures) (c .before .before .before .before .before .decided2 .ensures) (c .before .before .fault-slots .ensures)
+returns c = let a = c .before .before .before .before .before .before .before .before .before .before .before .args in faulty-is (a .trial .inputs) (a .trial .cells) (a .trial .outputs) (a .trial .pins) (a .f) _ _ _ _ (a .src .now) _ _ (c .before .before .before .before .before .fault-at .ensures) (c .before .before .before .decided2 .ensures) (c .fault-slots .ensures)
 
 pub faulty-slots-spec : {M : Type 1} → statement M
 faulty-slots-spec =
     tie.close
     (tie.spec
+    array-copy-out-decided
+    array-copy-out-decided-2
+    array-copy-out-decided-3
+    array-copy-out-decided-4
+    array-copy-out-decided-5
+    array-copy-out-decided-6
     add-fault-at
     fault-at-requires
     decided-requires
     fault-slots-requires
-    same-length
     returns)

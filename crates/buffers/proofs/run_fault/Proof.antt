@@ -11,16 +11,16 @@ use Rattle.buffers.proofs.run_fault.Tie as tie
 
 -- each step back is named after where it leads: to the start, to the pins copied, to the cells worked out, and to the look at them
 abbrev start : tie.After-copy-pins → tie.Start
-start c = c .before .before .before .before .before .before .before .before .before .before
+start c = c .before .before .before
 
 abbrev copied : tie.After-good-cells → tie.After-copy-pins
-copied c = c .before .before .before .before .before .before .before
+copied c = c .before .before .before .before .before .before .before .before .before
 
 abbrev worked : tie.After-look-all → tie.After-good-cells
-worked c = c .before .before .before .before .before .before .before .before
+worked c = c .before .before .before .before .before .before .before .before .before
 
 abbrev looked : tie.After-copy-words → tie.After-look-all
-looked c = c .before .before .before .before .before .before .before .before
+looked c = c .before .before .before
 
 sub-copy-pins : tie.Need-sub-copy-pins
 sub-copy-pins c = search needs
@@ -31,17 +31,32 @@ slice-aggregate-copy-pins c = search needs
 copy-pins-requires : tie.Need-copy-pins-requires
 copy-pins-requires c κs = search needs
 
+array-copy-out-good-cells : tie.Need-array-copy-out-good-cells
+array-copy-out-good-cells c = search needs
+
+array-copy-out-good-cells-2 : tie.Need-array-copy-out-good-cells-2
+array-copy-out-good-cells-2 c = search needs
+
+array-copy-out-good-cells-3 : tie.Need-array-copy-out-good-cells-3
+array-copy-out-good-cells-3 c = search needs
+
+array-copy-out-good-cells-4 : tie.Need-array-copy-out-good-cells-4
+array-copy-out-good-cells-4 c = search needs
+
 good-cells-requires : tie.Need-good-cells-requires
 good-cells-requires c κs =
-    let s = start (c .before .before .before .before .before .before) in
+    let s = start (c .before .before .before .before .before .before .before .before) in
     (s .pre .0, ap length (s .pre .1 .1 .1 .0) ∙ s .pre .1 .1 .0 .3)
+
+array-copy-out-look-all : tie.Need-array-copy-out-look-all
+array-copy-out-look-all c = search needs
 
 slice-aggregate-look-all : tie.Need-slice-aggregate-look-all
 slice-aggregate-look-all c = search needs
 
 look-all-requires : tie.Need-look-all-requires
 look-all-requires c κs =
-    let g = c .before .before .before .before .before .before .before in
+    let g = c .before .before .before .before .before .before .before .before in
     let p = copied g in
     let s = start p in
     let a = s .args in
@@ -53,40 +68,28 @@ look-all-requires c κs =
         s .pre .1 .1 .0 .1,
         s .pre .1 .1 .0 .2,
         F .long,
-        λ z l. (omega (arith, s .pre .1 .1 .0 .4 z l, s .pre .1 .1 .0 .3), omega (arith, ends-low (a .n - a .o) (a .o) (a .faulty .now) _ _ (s .pre .1 .0 .0) refl (λ y. zero-at 64 y) F (s .pre .1 .0 .3) z l, long)),
+        λ z l. (omega (arith, s .pre .1 .1 .0 .4 z l, s .pre .1 .1 .0 .3), omega (arith, ends-low (a .trial .pins - a .trial .outputs) (a .trial .outputs) (a .faulty .now) _ _ (s .pre .1 .0 .0) refl (λ y. zero-at 64 y) F (s .pre .1 .0 .3) z l, long)),
       ),
       s .pre .1 .1 .1 .1,
     )
 
 copy-words-requires : tie.Need-copy-words-requires
 copy-words-requires c κs =
-    let g = worked (c .before .before .before .before .before .before .before) in
+    let g = worked (c .before .before) in
     let s = start (copied g) in
     let W = g .good-cells .ensures in
     (omega (arith, s .pre .1 .1 .0 .3), omega (arith, W .long, ap length (s .pre .1 .1 .1 .0), s .pre .1 .1 .0 .3))
 
-same-length : tie.Need-same-length
-same-length c = search needs
-
-same-length-2 : tie.Need-same-length-2
-same-length-2 c = search needs
-
-same-length-3 : tie.Need-same-length-3
-same-length-3 c = search needs
-
-same-length-4 : tie.Need-same-length-4
-same-length-4 c = search needs
-
 returns : tie.Need-returns
 returns c =
-    let k = looked (c .before .before) in
+    let k = looked c in
     let g = worked k in
     let p = copied g in
     let s = start p in
     let a = s .args in
     let W = g .good-cells .ensures in (
       ran-is _ _ _ _ _ _ _ _ _ _ _ _ _ _ _ _ _ _ _ _ _ _ _ _ (s .pre .1 .1 .1 .0) W (p .copy-pins .ensures) (k .look-all .ensures),
-      put-back (a .goods .now) _ _ (s .pre .1 .1 .0 .3) (W .long ∙ ap length (s .pre .1 .1 .1 .0) ∙ s .pre .1 .1 .0 .3) (c .before .before .copy-words .ensures),
+      put-back (a .goods .now) _ _ (s .pre .1 .1 .0 .3) (W .long ∙ ap length (s .pre .1 .1 .1 .0) ∙ s .pre .1 .1 .0 .3) (c .copy-words .ensures),
     )
 
 pub run-fault-spec : {M : Type 1} → statement M
@@ -96,12 +99,13 @@ run-fault-spec =
     sub-copy-pins
     slice-aggregate-copy-pins
     copy-pins-requires
+    array-copy-out-good-cells
+    array-copy-out-good-cells-2
+    array-copy-out-good-cells-3
+    array-copy-out-good-cells-4
     good-cells-requires
+    array-copy-out-look-all
     slice-aggregate-look-all
     look-all-requires
     copy-words-requires
-    same-length
-    same-length-2
-    same-length-3
-    same-length-4
     returns)

@@ -7,36 +7,30 @@ use borrow.Author.Needs.{needs}
 use Rattle.buffers.proofs.try_fault.Statement.{statement}
 use Rattle.buffers.proofs.try_fault.Tie as tie
 
--- each step back is named after where it leads: to the start, to the faulty slots, and to the run on them
+-- each step back is named after where it leads
 abbrev start : tie.After-faulty-slots → tie.Start
-start c = c .before .before .before .before .before .before .before .before .before .before .before
+start c = c .before .before .before .before .before .before
 
 abbrev slots : tie.After-run-fault → tie.After-faulty-slots
-slots c = c .before .before .before .before .before .before .before
-
-abbrev ran : tie.After-slice-known9 → tie.After-run-fault
-ran c = c .before .before .before .before .before .before .before .before
+slots c = c .before .before .before .before .before .before
 
 mul-u : tie.Need-mul-u
 mul-u c = search needs
 
-slice-read-u : tie.Need-slice-read-u
-slice-read-u c = search needs
+element-copy-out-u : tie.Need-element-copy-out-u
+element-copy-out-u c = search needs
 
-slice-aggregate-faulty-slots : tie.Need-slice-aggregate-faulty-slots
-slice-aggregate-faulty-slots c = search needs
+array-copy-out-faulty-slots : tie.Need-array-copy-out-faulty-slots
+array-copy-out-faulty-slots c = search needs
 
 faulty-slots-requires : tie.Need-faulty-slots-requires
 faulty-slots-requires c κs =
-    let T = c .before .before .before .before .before .before .before .before .before .before .pre .1 .0 in
-    (T .limits, (T .pins, (T .first-pins, (T .ordered, (T .branched, search needs)))))
-
-slice-aggregate-run-fault : tie.Need-slice-aggregate-run-fault
-slice-aggregate-run-fault c = search needs
+    let T = c .before .before .before .before .before .pre .1 .0 in
+    (T .limits, (T .pins, (T .first-pins, (T .ordered, (T .branched, ((refl, T .slots-long), (T .chip .2 .listed, λ t l. (T .chip .2 .kind t l, T .chip .2 .first t l))))))))
 
 run-fault-requires : tie.Need-run-fault-requires
 run-fault-requires c κs =
-    let d = c .before .before .before .before .before .before in
+    let d = c .before .before .before .before .before in
     let s = start d in
     let T = s .pre .1 .0 in
     let D = d .faulty-slots .ensures in
@@ -48,21 +42,9 @@ run-fault-requires c κs =
       ),
     )
 
-same-length : tie.Need-same-length
-same-length c = search needs
-
-same-length-2 : tie.Need-same-length-2
-same-length-2 c = search needs
-
-same-length-3 : tie.Need-same-length-3
-same-length-3 c = search needs
-
-same-length-4 : tie.Need-same-length-4
-same-length-4 c = search needs
-
 returns : tie.Need-returns
 returns c =
-    let r = ran c in
+    let r = c in
     let d = slots r in
     let s = start d in (
       ran-went _ _ _ _ _ _ _ _ _ _ _ _ _ _ _ _ (s .pre .1 .0) _ _ _ _ _ _ _ (s .pre .1 .1 .1) _ (d .faulty-slots .ensures) _ refl (r .run-fault .ensures .0),
@@ -71,7 +53,7 @@ returns c =
 
 returns-2 : tie.Need-returns-2
 returns-2 c =
-    let s = c .before .before .before .before .before .before .before .before .before in (
+    let s = c .before .before .before in (
       idle-went _ _ _ _ _ _ _ _ _ _ _ _ _ _ _ _ (s .pre .1 .0) _ _ _ _ (s .pre .1 .1 .1) (c .if1 .left),
       s .pre .1 .1 .0,
     )
@@ -81,14 +63,9 @@ try-fault-spec =
     tie.close
     (tie.spec
     mul-u
-    slice-read-u
-    slice-aggregate-faulty-slots
+    element-copy-out-u
+    array-copy-out-faulty-slots
     faulty-slots-requires
-    slice-aggregate-run-fault
     run-fault-requires
-    same-length
-    same-length-2
-    same-length-3
-    same-length-4
     returns
     returns-2)

@@ -8,85 +8,71 @@ use borrow.Author.Needs.{needs}
 use Rattle.buffers.proofs.try_pad.Statement.{statement}
 use Rattle.buffers.proofs.try_pad.Tie as tie
 
--- each step back is named after where it leads: to the start, to the faults of the net tried, to their tables known, to the first pin read, and to its faults tried
+-- each step back is named after where it leads
 abbrev start : tie.After-try-site → tie.Start
-start c = c .before .before .before .before .before .before .before .before .before .before .before .before
+start c = c .before .before .before .before .before .before
 
-abbrev net : tie.After-slice-known8 → tie.After-try-site
-net c = c .before .before .before .before .before .before .before .before
-
-abbrev known : tie.After-wide → tie.After-slice-known8
+abbrev known : tie.After-wide → tie.After-try-site
 known c = c .before .before
 
 abbrev read : tie.After-try-site2 → tie.After-wide
 read c = c .before .before .before .before .before
 
-abbrev pin : tie.After-slice-known12 → tie.After-try-site2
-pin c = c .before .before .before .before .before .before .before .before
+array-copy-out-firsts : tie.Need-array-copy-out-firsts
+array-copy-out-firsts c = search needs
 
 add-try-site : tie.Need-add-try-site
 add-try-site c = search needs
 
 try-site-requires : tie.Need-try-site-requires
 try-site-requires c κs =
-    let s = c .before .before .before .before .before .before .before .before .before .before .before in
+    let s = c .before .before .before .before .before in
     (omega (arith, s .pre .0), s .pre .1)
 
 add-try-site-2 : tie.Need-add-try-site-2
 add-try-site-2 c =
-    let s = start (net c) in
+    let s = start c in
     let T = s .pre .1 .0 in
     omega (arith, s .pre .0, T .limits .few-inputs, T .limits .few-cells, T .limits .few-pins, T .pins)
 
 mul-wide : tie.Need-mul-wide
 mul-wide c =
-    let s = start (net c) in
+    let s = start c in
     let T = s .pre .1 .0 in
     omega (arith, s .pre .0, T .limits .few-inputs, T .limits .few-cells, T .limits .few-pins, T .pins)
 
-element-copy-out-wide : tie.Need-element-copy-out-wide
-element-copy-out-wide c =
-    let s = start (net c) in
+shared-slice-read-wide : tie.Need-shared-slice-read-wide
+shared-slice-read-wide c =
+    let s = start (c .before) in
     let T = s .pre .1 .0 in
-    omega (arith, s .pre .0, T .limits .few-inputs, T .limits .few-cells, T .limits .few-pins, T .pins)
+    let (t, at) = T .ordered .placed (s .args .j) (s .pre .0) in
+    omega (arith, at, T .chip .2 .first _ t)
 
 wide-requires : tie.Need-wide-requires
 wide-requires c κs = search needs
 
 add-try-site-3 : tie.Need-add-try-site-3
 add-try-site-3 c =
-    let s = start (net (known c)) in
+    let s = start (known c) in
     let T = s .pre .1 .0 in
     omega (arith, s .pre .0, c .wide .ensures, pin-low T (s .args .j) (s .pre .0), T .limits .few-inputs, T .limits .few-cells, T .limits .few-pins, T .pins)
 
 try-site-requires-2 : tie.Need-try-site-requires-2
 try-site-requires-2 c κs =
     let r = c .before .before .before .before in
-    let e = net (known r) in
+    let e = known r in
     let s = start e in
     let w = e .try-site .ensures in
     (omega (arith, r .wide .ensures, pin-low (s .pre .1 .0) (s .args .j) (s .pre .0)), (s .pre .1 .0, (w .1, w .0 .kept .long)))
 
-same-length : tie.Need-same-length
-same-length c = search needs
-
-same-length-2 : tie.Need-same-length-2
-same-length-2 c = search needs
-
-same-length-3 : tie.Need-same-length-3
-same-length-3 c = search needs
-
-same-length-4 : tie.Need-same-length-4
-same-length-4 c = search needs
-
 returns : tie.Need-returns
 returns c =
-    let p = pin c in
+    let p = c in
     let r = read p in
-    let e = net (known r) in
+    let e = known r in
     let s = start e in
     let a = s .args in (
-      pad-went _ _ _ _ _ _ _ _ _ _ _ _ _ _ _ _ (s .pre .1 .0) _ _ _ _ _ _ _ _ _ _ _ (s .pre .0) (ap (λ x. a .i + a .c + x) (r .wide .ensures)) (e .try-site .ensures .0)
+      pad-went _ _ _ _ _ _ _ _ _ _ _ _ _ _ _ _ (s .pre .1 .0) _ _ _ _ _ _ _ _ _ _ _ (s .pre .0) (ap (λ x. a .trial .inputs + a .trial .cells + x) (r .wide .ensures)) (e .try-site .ensures .0)
           (p .try-site2 .ensures .0),
       p .try-site2 .ensures .1,
     )
@@ -95,16 +81,13 @@ pub try-pad-spec : {M : Type 1} → statement M
 try-pad-spec =
     tie.close
     (tie.spec
+    array-copy-out-firsts
     add-try-site
     try-site-requires
     add-try-site-2
     mul-wide
-    element-copy-out-wide
+    shared-slice-read-wide
     wide-requires
     add-try-site-3
     try-site-requires-2
-    same-length
-    same-length-2
-    same-length-3
-    same-length-4
     returns)

@@ -5,62 +5,44 @@ use borrow.Author.Needs.{needs}
 use Rattle.buffers.proofs.try_site.Statement.{statement}
 use Rattle.buffers.proofs.try_site.Tie as tie
 
--- each step back is named after where it leads: to the start, to the site stuck at 0 tried, to its tables known, and to the site stuck at 1 tried
+-- each step back is named after where it leads
 abbrev start : tie.After-try-fault → tie.Start
-start c = c .before .before .before .before .before .before .before .before .before .before .before .before
+start c = c .before .before .before .before .before
 
-abbrev zero : tie.After-slice-known8 → tie.After-try-fault
-zero c = c .before .before .before .before .before .before .before .before
-
-abbrev known : tie.After-try-fault2 → tie.After-slice-known8
+abbrev known : tie.After-try-fault2 → tie.After-try-fault
 known c = c .before .before .before .before .before
-
-abbrev one : tie.After-slice-known12 → tie.After-try-fault2
-one c = c .before .before .before .before .before .before .before .before
 
 mul-try-fault : tie.Need-mul-try-fault
 mul-try-fault c = search needs
 
 try-fault-requires : tie.Need-try-fault-requires
 try-fault-requires c κs =
-    let s = c .before .before .before .before .before .before .before .before .before .before .before in
+    let s = c .before .before .before .before in
     (omega (arith, s .pre .0), s .pre .1)
 
 mul-try-fault-2 : tie.Need-mul-try-fault-2
 mul-try-fault-2 c =
-    let s = start (zero c) in
+    let s = start c in
     let T = s .pre .1 .0 in
     omega (arith, s .pre .0, T .limits .few-inputs, T .limits .few-cells, T .limits .few-pins, T .pins)
 
 add-try-fault : tie.Need-add-try-fault
 add-try-fault c =
-    let s = start (zero c) in
+    let s = start c in
     let T = s .pre .1 .0 in
     omega (arith, s .pre .0, T .limits .few-inputs, T .limits .few-cells, T .limits .few-pins, T .pins)
 
 try-fault-requires-2 : tie.Need-try-fault-requires-2
 try-fault-requires-2 c κs =
-    let z = zero (c .before .before .before .before) in
+    let z = c .before .before .before .before in
     let s = start z in
     let w = z .try-fault .ensures in
     (omega (arith, s .pre .0), (s .pre .1 .0, (w .1, w .0 .kept .long)))
 
-same-length : tie.Need-same-length
-same-length c = search needs
-
-same-length-2 : tie.Need-same-length-2
-same-length-2 c = search needs
-
-same-length-3 : tie.Need-same-length-3
-same-length-3 c = search needs
-
-same-length-4 : tie.Need-same-length-4
-same-length-4 c = search needs
-
 returns : tie.Need-returns
 returns c =
-    let n = one c in
-    let z = zero (known n) in
+    let n = c in
+    let z = known n in
     let s = start z in (
       site-went _ _ _ _ _ _ _ _ _ _ _ _ _ _ _ _ (s .pre .1 .0) _ _ _ _ _ _ _ _ _ _ (z .try-fault .ensures .0) (n .try-fault2 .ensures .0),
       n .try-fault2 .ensures .1,
@@ -75,8 +57,4 @@ try-site-spec =
     mul-try-fault-2
     add-try-fault
     try-fault-requires-2
-    same-length
-    same-length-2
-    same-length-3
-    same-length-4
     returns)

@@ -6,24 +6,24 @@ use borrow.Author.Needs.{needs}
 use Rattle.cells.proofs.flip_run.Statement.{statement}
 use Rattle.cells.proofs.flip_run.Tie as tie
 
--- each step back is named after where it leads: to the start, to the cell read, to its words flipped, to its bit set, to its readers marked, and to the run
+-- each step back is named after where it leads
 abbrev start : tie.After-wide → tie.Start
-start c = c .before .before .before .before .before .before .before .before .before .before .before .before .before .before
+start c = c .before .before .before .before
 
 abbrev read : tie.After-flip → tie.After-wide
-read c = c .before .before
+read c = c .before .before .before
 
 abbrev flipped : tie.After-put-bit → tie.After-flip
-flipped c = c .before .before .before .before
+flipped c = c .before .before
 
 abbrev noted : tie.After-mark-readers → tie.After-put-bit
-noted c = c .before .before .before .before
+noted c = c .before .before .before .before .before
 
 abbrev marked : tie.After-run → tie.After-mark-readers
-marked c = c .before .before .before .before .before .before
+marked c = c .before .before .before .before
 
-abbrev ran : tie.After-slice-known9 → tie.After-run
-ran c = c .before .before .before .before .before .before
+array-copy-out-order : tie.Need-array-copy-out-order
+array-copy-out-order c = search needs
 
 mul-wide : tie.Need-mul-wide
 mul-wide c = search needs
@@ -35,19 +35,25 @@ wide-requires : tie.Need-wide-requires
 wide-requires c κs = search needs
 
 add-flip : tie.Need-add-flip
-add-flip c = let s = start c in omega (arith, c .wide .ensures, s .pre .0 .cell (s .args .p) (s .pre .1 .0 .0))
+add-flip c = let s = start (c .before) in omega (arith, c .before .wide .ensures, s .pre .0 .cell (s .args .p) (s .pre .1 .0 .0))
 
 flip-requires : tie.Need-flip-requires
 flip-requires c κs =
-    let s = start (c .before) in
-    (omega (arith, c .before .wide .ensures, s .pre .0 .cell (s .args .p) (s .pre .1 .0 .0), s .pre .1 .0 .2), s .pre .1 .0 .1)
+    let s = start (c .before .before) in
+    (omega (arith, c .before .before .wide .ensures, s .pre .0 .cell (s .args .p) (s .pre .1 .0 .0), s .pre .1 .0 .2), s .pre .1 .0 .1)
 
 put-bit-requires : tie.Need-put-bit-requires
 put-bit-requires c κs = search needs
 
+array-copy-out-mark-readers : tie.Need-array-copy-out-mark-readers
+array-copy-out-mark-readers c = search needs
+
+array-copy-out-mark-readers-2 : tie.Need-array-copy-out-mark-readers-2
+array-copy-out-mark-readers-2 c = search needs
+
 mark-readers-requires : tie.Need-mark-readers-requires
 mark-readers-requires c κs =
-    let w = read (flipped (c .before .before .before)) in
+    let w = read (flipped (c .before .before .before .before)) in
     let s = start w in
     let p = s .args .p in
     let C = s .pre .0 in
@@ -59,7 +65,7 @@ add-run c = search needs
 
 run-requires : tie.Need-run-requires
 run-requires c κs =
-    let m = c .before .before .before .before .before in
+    let m = c .before .before .before in
     let b = noted m in
     let f = flipped b in
     let w = read f in
@@ -73,18 +79,9 @@ run-requires c κs =
       ),
     )
 
-same-length : tie.Need-same-length
-same-length c = search needs
-
-same-length-2 : tie.Need-same-length-2
-same-length-2 c = search needs
-
-same-length-3 : tie.Need-same-length-3
-same-length-3 c = search needs
-
 returns : tie.Need-returns
 returns c =
-    let r = ran c in
+    let r = c in
     let m = marked r in
     let b = noted m in
     let f = flipped b in
@@ -100,16 +97,16 @@ pub flip-run-spec : {M : Type 1} → statement M
 flip-run-spec =
     tie.close
     (tie.spec
+    array-copy-out-order
     mul-wide
     shared-slice-read-wide
     wide-requires
     add-flip
     flip-requires
     put-bit-requires
+    array-copy-out-mark-readers
+    array-copy-out-mark-readers-2
     mark-readers-requires
     add-run
     run-requires
-    same-length
-    same-length-2
-    same-length-3
     returns)

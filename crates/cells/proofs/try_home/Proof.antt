@@ -8,22 +8,25 @@ use Rattle.cells.proofs.try_home.Tie as tie
 
 -- back from where the lanes of the home are known to the start
 abbrev start : tie.After-home-lanes → tie.Start
-start c = c .before .before .before .before .before .before .before .before .before .before .before .before .before .before .before .before .before .before .before
+start c = c .before .before .before .before .before .before
 
 add-home-lanes : tie.Need-add-home-lanes
 add-home-lanes c =
-    let s = c .before .before .before .before .before .before .before .before .before .before .before .before .before .before .before .before in
-    omega (arith, s .pre .1 .0 .1, s .pre .0 .cell (s .args .p) (s .pre .1 .0 .0))
+    let s = c in
+    omega (arith, s .pre .1 .0 .1, s .pre .0 .cell (s .args .home .place) (s .pre .1 .0 .0))
+
+array-copy-out-home-lanes : tie.Need-array-copy-out-home-lanes
+array-copy-out-home-lanes c = search needs
 
 slice-aggregate-home-lanes : tie.Need-slice-aggregate-home-lanes
 slice-aggregate-home-lanes c = search needs
 
 home-lanes-requires : tie.Need-home-lanes-requires
 home-lanes-requires c κs =
-    let s = c .before .before .before .before .before .before .before .before .before .before .before .before .before .before .before .before .before .before in
+    let s = c .before .before .before .before .before in
     let w = s .pre .1 .1 .1 .1 in
     let lg = s .pre .1 .0 .2 in
-    ((w .0 .0, w .0 .1, omega (arith, s .pre .1 .0 .1, s .pre .0 .cell (s .args .p) (s .pre .1 .0 .0), lg), rw lg (w .0 .2)), (w .1 .0, refl))
+    ((w .0 .0, w .0 .1, omega (arith, s .pre .1 .0 .1, s .pre .0 .cell (s .args .home .place) (s .pre .1 .0 .0), lg), rw lg (w .0 .2)), (w .1 .0, refl))
 
 slice-aggregate-any : tie.Need-slice-aggregate-any
 slice-aggregate-any c = search needs
@@ -31,40 +34,16 @@ slice-aggregate-any c = search needs
 any-requires : tie.Need-any-requires
 any-requires c κs = search needs
 
-slice-aggregate-flip-look : tie.Need-slice-aggregate-flip-look
-slice-aggregate-flip-look c = search needs
-
 flip-look-requires : tie.Need-flip-look-requires
 flip-look-requires c κs =
-    let h = c .before .before .before .before .before .before .before .before .before .before .before in
+    let h = c .before .before .before .before .before .before .before .before .before in
     let s = start h in
     let k = s .pre .1 .0 in
     let w = s .pre .1 .1 in
     (s .pre .0, ((k .0, k .1, h .home-lanes .ensures .long, k .2, k .3), (w .0, (w .1 .0, (w .1 .1 .0, (w .1 .1 .1, h .home-lanes .ensures))))))
 
-same-length : tie.Need-same-length
-same-length c = search needs
-
-same-length-2 : tie.Need-same-length-2
-same-length-2 c = search needs
-
-same-length-3 : tie.Need-same-length-3
-same-length-3 c = search needs
-
-same-length-4 : tie.Need-same-length-4
-same-length-4 c = search needs
-
-same-length-5 : tie.Need-same-length-5
-same-length-5 c = search needs
-
-same-length-6 : tie.Need-same-length-6
-same-length-6 c = search needs
-
 returns : tie.Need-returns
 returns c = search needs
-
-same-length-7 : tie.Need-same-length-7
-same-length-7 c = search needs
 
 returns-2 : tie.Need-returns-2
 returns-2 c =
@@ -80,18 +59,11 @@ try-home-spec =
     tie.close
     (tie.spec
     add-home-lanes
+    array-copy-out-home-lanes
     slice-aggregate-home-lanes
     home-lanes-requires
     slice-aggregate-any
     any-requires
-    slice-aggregate-flip-look
     flip-look-requires
-    same-length
-    same-length-2
-    same-length-3
-    same-length-4
-    same-length-5
-    same-length-6
     returns
-    same-length-7
     returns-2)

@@ -3,38 +3,36 @@ use Rattle.events.proofs.Running.{Running, run-start, run-place, run-st
 use Prim.Native.Nat.{_-_, _≤_}
 use mathlib.Core.Path.{_∙_}
 use native.Mathlib.Omega.{arith}
+use Rattle.events.specs.Lent.{kindsOf, countsOf, firstsOf, orderOf}
 use Rattle.events.proofs.run.Statement.{statement}
 use Rattle.events.proofs.run.Tie as tie
 
 abbrev Inv-loop : tie.InvT-loop
-Inv-loop from c u kinds counts firsts src order reach heads readers vals₀ marks₀ changed₀ at₀ vals marks changed at = Running from c u kinds counts firsts src order reach vals₀ changed₀ at vals marks changed × (at ≤ 1088)
+Inv-loop from c u bytes tables src reach vals₀ marks₀ changed₀ at₀ vals marks changed at = Running from c u (kindsOf bytes) (countsOf bytes) (firstsOf tables) src (orderOf tables) reach vals₀ changed₀ at vals marks changed × (at ≤ 1088)
 
 abbrev μ-loop : tie.MeasureT-loop
-μ-loop from c u kinds counts firsts src order reach heads readers vals₀ marks₀ changed₀ at₀ vals marks changed at = c - at
+μ-loop from c u bytes tables src reach vals₀ marks₀ changed₀ at₀ vals marks changed at = c - at
 
--- each step back is named after where it leads: to the start, to the loop, to the place found, and to its step
+-- each step back is named after where it leads
 abbrev start : tie.At-loop Inv-loop μ-loop → tie.Start Inv-loop μ-loop
-start c = c .before .before .before .before .before .before .before .before .before .before .before .before
+start c = c .before .before
 
 abbrev looped : tie.After-low-mark Inv-loop μ-loop → tie.At-loop Inv-loop μ-loop
-looped c = c .before .before .before
+looped c = c .before .before .before .before
 
 abbrev found : tie.After-step Inv-loop μ-loop → tie.After-low-mark Inv-loop μ-loop
 found c = c .before .before .before .before .before
 
-abbrev stepped : tie.After-slice-known6 Inv-loop μ-loop → tie.After-step Inv-loop μ-loop
-stepped c = c .before .before .before .before .before .before
-
 loop-holds : tie.Need-loop-holds Inv-loop μ-loop
 loop-holds c =
-    let s = c .before .before .before .before .before .before .before .before .before .before .before in (
+    let s = c .before in (
       run-start _ _ _ _ _ _ _ _ _ (s .pre .0) _ _ _ _ _ (s .pre .1 .0 .2) (s .pre .1 .0 .3) (s .pre .1 .1),
       omega (arith, s .pre .0 .few),
     )
 
 low-mark-requires : tie.Need-low-mark-requires Inv-loop μ-loop
 low-mark-requires c κs =
-    let g = c .before .before in
+    let g = c .before .before .before in
     let s = start g in
     (omega (arith, s .pre .0 .few), g .loop .inv .0 .long-marks)
 
@@ -57,24 +55,24 @@ step-requires c κs =
     )
 
 add-at : tie.Need-add-at Inv-loop μ-loop
-add-at c = let s = start (looped (found (stepped c))) in omega (arith, s .pre .0 .few)
+add-at c = let s = start (looped (found c)) in omega (arith, s .pre .0 .few)
 
 add-at-2 : tie.Need-add-at-2 Inv-loop μ-loop
-add-at-2 c = let s = start (looped (found (stepped c))) in omega (arith, s .pre .0 .few)
+add-at-2 c = let s = start (looped (found c)) in omega (arith, s .pre .0 .few)
 
 loop-less : tie.Need-loop-less Inv-loop μ-loop
 loop-less c = omega arith
 
 loop-again : tie.Need-loop-again Inv-loop μ-loop
 loop-again c =
-    let t = stepped c in
+    let t = c in
     let m = found t in
     let g = looped m in
     let s = start g in
     let l = g .loop in (
       run-step _ _ _ _ _ _ _ _ _ (s .pre .0) _ _ _ _ _ _ _ _ (l .inv .0) (m .low-mark .result) (m .low-mark .ensures) _ _ _
           (t .before .before .before .before .if1 .taken) (t .step .ensures),
-      omega (arith, s .pre .0 .few, m .before .before .loop-test .taken),
+      omega (arith, s .pre .0 .few, m .before .before .before .loop-test .taken),
     )
 
 add-at-3 : tie.Need-add-at-3 Inv-loop μ-loop
@@ -94,15 +92,6 @@ loop-again-2 c =
       run-skip _ _ _ _ _ _ _ _ _ (s .pre .0) _ _ _ _ _ _ _ _ (l .inv .0) (c .before .low-mark .result) (c .before .low-mark .ensures) (omega arith),
       omega (arith, s .pre .0 .few),
     )
-
-same-length : tie.Need-same-length Inv-loop μ-loop
-same-length c = c .before .loop .inv .0 .long
-
-same-length-2 : tie.Need-same-length-2 Inv-loop μ-loop
-same-length-2 c = let s = start (c .before) in omega (arith, c .before .loop .inv .0 .long-marks, s .pre .1 .0 .2)
-
-same-length-3 : tie.Need-same-length-3 Inv-loop μ-loop
-same-length-3 c = let s = start (c .before) in omega (arith, c .before .loop .inv .0 .long-changed, s .pre .1 .0 .3)
 
 returns : tie.Need-returns Inv-loop μ-loop
 returns c =
@@ -130,7 +119,4 @@ run-spec =
     mul-at
     loop-less-2
     loop-again-2
-    same-length
-    same-length-2
-    same-length-3
     returns)

@@ -31,50 +31,50 @@ few : (s : tie.Start Inv-loop μ-loop) → (s .args .i ≤ 64) × (s .args .c �
 few s = (s .pre .0 .few-inputs, s .pre .0 .few-cells, omega (arith, s .pre .1 .0, s .pre .0 .few-pins))
 
 -- the net that the pin names
-net-low : (a : tie.After-wide Inv-loop μ-loop) → a .wide .result < a .before .before .before .before .before .args .i + a .before .before .before .before .before .args .c
+net-low : (a : tie.After-wide Inv-loop μ-loop) → a .wide .result < a .before .before .before .before .before .before .before .args .i + a .before .before .before .before .before .before .before .args .c
 net-low a =
-    let s = a .before .before .before .before .before in
+    let s = a .before .before .before .before .before .before .before in
     omega (arith, a .wide .ensures, s .pre .0 .sound .named (a .before .before .before .loop .p) (omega (arith, s .pre .1 .0, a .before .before .loop-test .taken)))
 
 loop-holds : tie.Need-loop-holds Inv-loop μ-loop
-loop-holds c = (omega arith, c .before .pre .1 .1 .1, λ f A D q l. absurd (omega arith))
+loop-holds c = (omega arith, c .before .before .before .pre .1 .1 .1, λ f A D q l. absurd (omega arith))
 
 mul-wide : tie.Need-mul-wide Inv-loop μ-loop
-mul-wide c = omega (arith, few (c .before .before .before))
+mul-wide c = omega (arith, few (c .before .before .before .before .before))
 
 element-copy-out-wide : tie.Need-element-copy-out-wide Inv-loop μ-loop
-element-copy-out-wide c = omega (arith, few (c .before .before .before))
+element-copy-out-wide c = omega (arith, few (c .before .before .before .before .before))
 
 wide-requires : tie.Need-wide-requires Inv-loop μ-loop
 wide-requires c κs = search needs
 
 mul-coming : tie.Need-mul-coming Inv-loop μ-loop
-mul-coming c = omega (arith, few (c .before .before .before .before .before))
+mul-coming c = omega (arith, few (c .before .before .before .before .before .before .before))
 
 element-copy-out-coming : tie.Need-element-copy-out-coming Inv-loop μ-loop
-element-copy-out-coming c = omega (arith, few (c .before .before .before .before .before))
+element-copy-out-coming c = omega (arith, few (c .before .before .before .before .before .before .before))
 
 element-copy-out-coming-2 : tie.Need-element-copy-out-coming-2 Inv-loop μ-loop
-element-copy-out-coming-2 c = omega (arith, net-low (c .before), few (c .before .before .before .before .before .before))
+element-copy-out-coming-2 c = omega (arith, net-low (c .before), few (c .before .before .before .before .before .before .before .before))
 
 element-copy-out-coming-3 : tie.Need-element-copy-out-coming-3 Inv-loop μ-loop
-element-copy-out-coming-3 c = omega (arith, net-low (c .before .before), few (c .before .before .before .before .before .before .before))
+element-copy-out-coming-3 c = omega (arith, net-low (c .before .before), few (c .before .before .before .before .before .before .before .before .before))
 
 coming-requires : tie.Need-coming-requires Inv-loop μ-loop
 coming-requires c κs = search needs
 
 slice-write-table : tie.Need-slice-write-table Inv-loop μ-loop
-slice-write-table c = omega (arith, few (c .before .before .before .before .before .before .before .before .before), c .before .before .before .before .before .before .before .loop .inv .1)
+slice-write-table c = omega (arith, few (c .before .before .before .before .before .before .before .before .before .before .before), c .before .before .before .before .before .before .before .loop .inv .1)
 
 add-p : tie.Need-add-p Inv-loop μ-loop
-add-p c = omega (arith, few (c .before .before .before .before .before .before .before .before .before))
+add-p c = omega (arith, few (c .before .before .before .before .before .before .before .before .before .before .before))
 
 loop-less : tie.Need-loop-less Inv-loop μ-loop
 loop-less c = search needs
 
 loop-again : tie.Need-loop-again Inv-loop μ-loop
 loop-again c =
-    let s = c .before .before .before .before .before .before .before .before .before in
+    let s = c .before .before .before .before .before .before .before .before .before .before .before in
     let l = c .before .before .before .before .before .before .before .loop in
     let a = c .before .before .before .before in
     let N = net-of s in
@@ -91,7 +91,7 @@ loop-again c =
     )
 
 same-length : tie.Need-same-length Inv-loop μ-loop
-same-length c = omega (arith, c .before .loop .inv .1, c .before .before .before .pre .1 .1 .1)
+same-length c = omega (arith, c .before .loop .inv .1, c .before .before .before .before .before .pre .1 .1 .1)
 
 returns : tie.Need-returns Inv-loop μ-loop
 returns c = ((λ f A D p l. c .before .loop .inv .2 f A D p (omega arith)), c .before .loop .inv .1)

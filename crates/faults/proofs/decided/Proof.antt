@@ -18,10 +18,10 @@ slice-aggregate-decided-nets : tie.Need-slice-aggregate-decided-nets
 slice-aggregate-decided-nets c = search needs
 
 decided-nets-requires : tie.Need-decided-nets-requires
-decided-nets-requires c κs = let s = c .before .before .before .before in (s .pre .0, (s .pre .1 .1 .0, (s .pre .1 .1 .1 .0, c .before .before .stuck-nets .ensures)))
+decided-nets-requires c κs = let s = c .before .before .before .before .before .before .before .before in (s .pre .0, (s .pre .1 .1 .0, (s .pre .1 .1 .1 .0, (c .before .before .stuck-nets .ensures, s .pre .1 .1 .1 .1 .1))))
 
 coming-pins-requires : tie.Need-coming-pins-requires
-coming-pins-requires c κs = let s = c .before .before .before .before .before .before .before .before .before in (s .pre .0, (s .pre .1 .0, (s .pre .1 .1 .1 .1, c .coming-pins-arg .given .0 .1)))
+coming-pins-requires c κs = let s = c .before .before .before .before .before .before .before .before .before .before .before .before .before in (s .pre .0, (s .pre .1 .0, (s .pre .1 .1 .1 .1 .0, c .coming-pins-arg .given .0 .1)))
 
 stuck-pins-requires : tie.Need-stuck-pins-requires
 stuck-pins-requires c κs = search needs
@@ -31,7 +31,7 @@ returns c p l b =
     let came = c .before .before in
     let netted = came .before .before .before .before .before in
     let held = came .before .before .before .before .before .before .before .before in
-    let s = c .before .before .before .before .before .before .before .before .before .before .before .before in
+    let s = c .before .before .before .before .before .before .before .before .before .before .before .before .before .before .before .before in
     let h : p < s .args .n = omega (arith, s .pre .1 .0, l) in
     ap (stuck (s .args .fault) .pin p) (came .coming-pins .ensures .0 (stuck (s .args .fault)) (held .stuck-nets .ensures) (netted .decided-nets .ensures) p h b) ∙ c .stuck-pins .ensures p h b
 

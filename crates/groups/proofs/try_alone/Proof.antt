@@ -7,32 +7,26 @@ use borrow.Author.Needs.{needs}
 use Rattle.groups.proofs.try_alone.Statement.{statement}
 use Rattle.groups.proofs.try_alone.Tie as tie
 
--- each step back is named after where it leads: to the start, to the parameters known, and to the inputs, the pad buffers and the outputs tried
-abbrev start : tie.After-slice-known6 → tie.Start
-start c = c .before .before .before .before .before .before .before .before .before .before .before .before .before .before
-
-abbrev entered : tie.After-try-inputs → tie.After-slice-known6
-entered c = c .before .before .before .before .before .before .before .before .before .before .before .before
+-- each step back is named after where it leads
+abbrev start : tie.After-try-inputs → tie.Start
+start c = c .before .before .before .before .before
 
 abbrev inputs : tie.After-try-pads → tie.After-try-inputs
-inputs c = c .before .before .before .before .before .before .before .before .before .before .before .before .before .before .before .before .before
+inputs c = c .before .before .before .before .before
 
 abbrev pads : tie.After-try-outs → tie.After-try-pads
-pads c = c .before .before .before .before .before .before .before .before .before .before .before .before
-
-abbrev outs : tie.After-slice-known19 → tie.After-try-outs
-outs c = c .before .before .before .before .before .before
+pads c = c .before .before .before .before
 
 try-inputs-requires : tie.Need-try-inputs-requires
 try-inputs-requires c κs =
-    let s = start (c .before .before .before .before .before .before .before .before .before .before .before) in
+    let s = c .before .before .before .before in
     let S = s .pre .0 .3 in
     (S .chip, (S .reading, ((S .limits .few-inputs, s .pre .1 .0), (s .pre .1 .1 .0, s .pre .1 .1 .1))))
 
 try-pads-requires : tie.Need-try-pads-requires
 try-pads-requires c κs =
-    let x = c .before .before .before .before .before .before .before .before .before .before .before .before .before .before .before .before in
-    let s = start (entered x) in
+    let x = c .before .before .before .before in
+    let s = start x in
     let S = s .pre .0 .3 in
     let a = x .try-inputs .ensures in (
       S .sources-are .long,
@@ -43,57 +37,36 @@ try-pads-requires c κs =
           first-pins = S .first-pins;
           ordered = S .ordered;
           branched = S .branched;
+          slots-long = omega (arith, S .apart .pins-long, S .limits .few-pins, S .pins);
           chip = (_, _, S .chip);
           ready = s .pre .1 .1 .0;
           outs-are = S .outs-are;
         },
-        (a .1 .words, a .0 .kept .long),
+        (a .1, a .0 .kept .long),
       ),
     )
 
 try-outs-requires : tie.Need-try-outs-requires
 try-outs-requires c κs =
-    let p = c .before .before .before .before .before .before .before .before .before .before .before in
-    let s = start (entered (inputs p)) in
+    let p = c .before .before .before in
+    let s = start (inputs p) in
     let S = s .pre .0 .3 in
     let R = s .pre .1 .1 .0 in (
       (S .limits .few-inputs, S .limits .few-cells, omega (arith, S .limits .few-pins, S .pins), S .limits .few-outputs, omega (arith, S .pins)),
       ((R .chunk, R .outs-long, R .words, R .outs-low), p .try-pads .ensures .0 .kept .long),
     )
 
-same-length : tie.Need-same-length
-same-length c = let p = pads (outs c) in ap length (p .try-pads .ensures .1 ∙ sym (start (entered (inputs p)) .pre .1 .0 .words))
-
-same-length-2 : tie.Need-same-length-2
-same-length-2 c =
-    let x = inputs (pads (outs c)) in
-    x .try-inputs .ensures .1 .marks-clear .long ∙ sym (start (entered x) .pre .1 .0 .marks-clear .long)
-
-same-length-3 : tie.Need-same-length-3
-same-length-3 c =
-    let x = inputs (pads (outs c)) in
-    x .try-inputs .ensures .1 .changed-clear .long ∙ sym (start (entered x) .pre .1 .0 .changed-clear .long)
-
-same-length-4 : tie.Need-same-length-4
-same-length-4 c = search needs
-
-same-length-5 : tie.Need-same-length-5
-same-length-5 c = search needs
-
-same-length-6 : tie.Need-same-length-6
-same-length-6 c = search needs
-
 returns : tie.Need-returns
 returns c =
-    let y = outs c in
+    let y = c in
     let p = pads y in
     let x = inputs p in
-    let s = start (entered x) in
+    let s = start x in
     let (cone, low, rel, S) = s .pre .0 in
     let A = x .try-inputs .ensures in
     let B = p .try-pads .ensures in (
       alone-went _ _ _ _ _ _ _ _ _ _ _ _ _ _ _ _ _ _ _ _ _ _ _ low rel S (s .pre .1 .1 .0) _ _ _ _ _ _ _ _ _ _ _ _ (A .0) (B .0) (y .try-outs .ensures),
-      record { words = B .1; marks-clear = A .1 .marks-clear; changed-clear = A .1 .changed-clear },
+      B .1,
     )
 
 pub try-alone-spec : {M : Type 1} → statement M
@@ -103,10 +76,4 @@ try-alone-spec =
     try-inputs-requires
     try-pads-requires
     try-outs-requires
-    same-length
-    same-length-2
-    same-length-3
-    same-length-4
-    same-length-5
-    same-length-6
     returns)

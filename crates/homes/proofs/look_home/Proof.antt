@@ -10,10 +10,10 @@ use Rattle.homes.proofs.look_home.Statement.{statement}
 use Rattle.homes.proofs.look_home.Tie as tie
 
 abbrev Inv-loop : tie.InvT-loop
-Inv-loop kind net pin h a n q u src outs goods vals left₀ best₀ pat₀ e₀ e-end left best pat e = (e ≤ e-end) × (e-end ≡ 2 * n + 2) × LookedHome e kind net pin h a n q u src outs goods vals left₀ best₀ pat₀ left best pat
+Inv-loop q u src outs goods vals left₀ best₀ pat₀ kind net pin a n h e₀ e-end left best pat e = (e ≤ e-end) × (e-end ≡ 2 * n + 2) × LookedHome e kind net pin (16 + h) a n q u src outs goods vals left₀ best₀ pat₀ left best pat
 
 abbrev μ-loop : tie.MeasureT-loop
-μ-loop kind net pin h a n q u src outs goods vals left₀ best₀ pat₀ e₀ e-end left best pat e = e-end - e
+μ-loop q u src outs goods vals left₀ best₀ pat₀ kind net pin a n h e₀ e-end left best pat e = e-end - e
 
 -- each step back is named after where it leads: to the start, to the loop, to the number of the fault, and to the lanes in which it changes the home
 abbrev start : tie.At-loop Inv-loop μ-loop → tie.Start Inv-loop μ-loop
@@ -30,7 +30,7 @@ few : (c : tie.After-number Inv-loop μ-loop) → c .number .result < 10368
 few c =
     let g = looped c in
     let s = start g in
-    omega (arith, c .number .ensures, number-few (g .loop .e) (s .args .net) (s .args .pin) (s .args .n) (s .pre .1 .0 .0) (s .pre .1 .0 .1) (omega arith))
+    omega (arith, c .number .ensures, number-few (g .loop .e) (s .args .home .net) (s .args .home .pin) (s .args .home .count) (s .pre .1 .0 .0) (s .pre .1 .0 .1) (omega arith))
 
 mul-e-end : tie.Need-mul-e-end Inv-loop μ-loop
 mul-e-end c = search needs
@@ -54,6 +54,9 @@ mul-if1 c = omega (arith, few c)
 
 slice-read-if1 : tie.Need-slice-read-if1 Inv-loop μ-loop
 slice-read-if1 c = let m = c .before in omega (arith, few m, looped m .loop .inv .2 .long-left)
+
+add-home-diff : tie.Need-add-home-diff Inv-loop μ-loop
+add-home-diff c = search needs
 
 slice-aggregate-home-diff : tie.Need-slice-aggregate-home-diff Inv-loop μ-loop
 slice-aggregate-home-diff c = search needs
@@ -113,7 +116,7 @@ same-length-3 c = let s = start (c .before) in omega (arith, c .before .loop .in
 returns : tie.Need-returns Inv-loop μ-loop
 returns c =
     let l = c .before .loop in
-    let e : l .e ≡ 2 * start (c .before) .args .n + 2 = omega arith in
+    let e : l .e ≡ 2 * start (c .before) .args .home .count + 2 = omega arith in
     rw e at (l .inv .2)
 
 pub look-home-spec : {M : Type 1} → statement M
@@ -128,6 +131,7 @@ look-home-spec =
     number-requires
     mul-if1
     slice-read-if1
+    add-home-diff
     slice-aggregate-home-diff
     home-diff-requires
     mul-look

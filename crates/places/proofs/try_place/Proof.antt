@@ -9,23 +9,23 @@ use Rattle.places.proofs.try_place.Tie as tie
 
 -- each step back is named after where it leads: to the start, to the open output found, and to the cell tried
 abbrev start : tie.Then1 → tie.Start
-start c = c .before .before .before .before .before .before .before .before .before .before .before .before .before .before .before .before .before .before .before
+start c = c .before .before .before
 
 abbrev opened : tie.After-try-cell → tie.Then1
-opened c = c .before .before .before .before .before .before .before
+opened c = c .before .before .before .before .before
 
 abbrev tried : tie.After-left-of → tie.After-try-cell
-tried c = c .before .before .before .before .before .before .before .before .before .before .before .before .before .before
+tried c = c .before .before .before .before .before .before .before
 
 mul-u : tie.Need-mul-u
 mul-u c = search needs
 
-slice-read-u : tie.Need-slice-read-u
-slice-read-u c = search needs
+element-copy-out-u : tie.Need-element-copy-out-u
+element-copy-out-u c = search needs
 
 try-cell-requires : tie.Need-try-cell-requires
 try-cell-requires c κs =
-    let s = start (c .before .before .before .before .before .before) in
+    let s = start (c .before .before .before .before) in
     let R = s .pre .1 .1 .1 .0 in (
       s .pre .0,
       (
@@ -37,9 +37,21 @@ try-cell-requires c κs =
       ),
     )
 
+array-copy-out-left-of : tie.Need-array-copy-out-left-of
+array-copy-out-left-of c = search needs
+
+array-copy-out-left-of-2 : tie.Need-array-copy-out-left-of-2
+array-copy-out-left-of-2 c = search needs
+
+array-copy-out-left-of-3 : tie.Need-array-copy-out-left-of-3
+array-copy-out-left-of-3 c = search needs
+
+array-copy-out-left-of-4 : tie.Need-array-copy-out-left-of-4
+array-copy-out-left-of-4 c = search needs
+
 left-of-requires : tie.Need-left-of-requires
 left-of-requires c κs =
-    let t = c .before .before .before .before .before .before .before .before .before .before .before .before .before in
+    let t = c .before .before .before .before .before .before in
     let s = start (opened t) in
     let H = s .pre .0 in
     let l = s .pre .1 .1 .0 .0 in (
@@ -53,29 +65,8 @@ left-of-requires c κs =
 mul-groups : tie.Need-mul-groups
 mul-groups c = let s = start (opened (tried c)) in omega (arith, s .pre .0 .few, s .pre .1 .1 .0 .0)
 
-slice-write-groups : tie.Need-slice-write-groups
-slice-write-groups c = let s = start (opened (tried c)) in omega (arith, s .pre .0 .few, s .pre .1 .1 .0 .0, s .pre .1 .1 .1 .1 .1)
-
-same-length : tie.Need-same-length
-same-length c = search needs
-
-same-length-2 : tie.Need-same-length-2
-same-length-2 c = search needs
-
-same-length-3 : tie.Need-same-length-3
-same-length-3 c = search needs
-
-same-length-4 : tie.Need-same-length-4
-same-length-4 c = search needs
-
-same-length-5 : tie.Need-same-length-5
-same-length-5 c = search needs
-
-same-length-6 : tie.Need-same-length-6
-same-length-6 c = search needs
-
-same-length-7 : tie.Need-same-length-7
-same-length-7 c = search needs
+element-write-groups : tie.Need-element-write-groups
+element-write-groups c = let s = start (opened (tried c)) in omega (arith, s .pre .0 .few, s .pre .1 .1 .0 .0, s .pre .1 .1 .1 .1 .1)
 
 returns : tie.Need-returns
 returns c =
@@ -90,7 +81,7 @@ returns c =
 
 returns-2 : tie.Need-returns-2
 returns-2 c =
-    let s = c .before .before .before .before .before .before .before .before .before .before .before .before .before .before .before .before .before .before .before in
+    let s = c .before .before .before in
     (place-idle _ _ _ _ _ _ _ _ _ _ _ _ _ _ _ _ _ (s .pre .1 .1 .1 .1 .0) (s .pre .1 .1 .1 .1 .1) (c .if1 .left), s .pre .1 .1 .0 .1)
 
 pub try-place-spec : {M : Type 1} → statement M
@@ -98,17 +89,14 @@ try-place-spec =
     tie.close
     (tie.spec
     mul-u
-    slice-read-u
+    element-copy-out-u
     try-cell-requires
+    array-copy-out-left-of
+    array-copy-out-left-of-2
+    array-copy-out-left-of-3
+    array-copy-out-left-of-4
     left-of-requires
     mul-groups
-    slice-write-groups
-    same-length
-    same-length-2
-    same-length-3
-    same-length-4
-    same-length-5
-    same-length-6
-    same-length-7
+    element-write-groups
     returns
     returns-2)

@@ -10,20 +10,8 @@ use Rattle.search.proofs.answer_alone.Tie as tie
 abbrev start : tie.After-pat → tie.Start
 start c = c .before .before .before .before .before .before .before .before .before .before .before .before .before .before .before
 
-add-judge : tie.Need-add-judge
-add-judge c = let s = c .before .before in omega (arith, s .pre .1 .1, s .pre .0 .ready .pins, s .pre .0 .ready .limits .few-inputs, s .pre .0 .ready .limits .few-cells, s .pre .0 .ready .limits .few-pins)
-
-slice-aggregate-judge : tie.Need-slice-aggregate-judge
-slice-aggregate-judge c = search needs
-
-slice-aggregate-judge-2 : tie.Need-slice-aggregate-judge-2
-slice-aggregate-judge-2 c = search needs
-
-slice-aggregate-judge-3 : tie.Need-slice-aggregate-judge-3
-slice-aggregate-judge-3 c = search needs
-
-slice-aggregate-judge-4 : tie.Need-slice-aggregate-judge-4
-slice-aggregate-judge-4 c = search needs
+add-t12 : tie.Need-add-t12
+add-t12 c = search needs
 
 judge-requires : tie.Need-judge-requires
 judge-requires c κs =
@@ -37,14 +25,14 @@ judge-requires c κs =
 
 answer-judged-requires : tie.Need-answer-judged-requires
 answer-judged-requires c κs =
-    let j = c .before .before .before .before .before .before .before .before in
+    let j = c .before .before .before .before in
     let s = start (j .before) in
     let p = s .pre in
     (_, _, _, _, record { firsts = _; order = _; branches = _; block = _; ready = p .0 .ready; even = p .1 .0; judged = j .judge .ensures _ (omega arith) (omega arith) })
 
 returns : tie.Need-returns
 returns c =
-    let j = c .before .before .before .before .before .before .before .before .before in
+    let j = c .before .before .before .before .before in
     let s = start (j .before) in
     let p = s .pre in
     c .answer-judged .ensures _ _ _ _
@@ -54,11 +42,7 @@ pub answer-alone-spec : {M : Type 1} → statement M
 answer-alone-spec =
     tie.close
     (tie.spec
-    add-judge
-    slice-aggregate-judge
-    slice-aggregate-judge-2
-    slice-aggregate-judge-3
-    slice-aggregate-judge-4
+    add-t12
     judge-requires
     answer-judged-requires
     returns)

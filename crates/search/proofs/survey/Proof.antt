@@ -18,26 +18,14 @@ spotted c = c .before .before .before .before .before .before .before .before .b
 find-spots-requires : tie.Need-find-spots-requires
 find-spots-requires c κs = let p = c .before .before .before .before .before .before .before .before .before .before .before .before .pre in (p .0 .ready, p .1)
 
-add-judge : tie.Need-add-judge
-add-judge c = let o = start (c .before) .pre .0 in omega (arith, o .ready .limits .few-inputs, o .ready .limits .few-cells)
+add-t21 : tie.Need-add-t21
+add-t21 c = search needs
 
-add-judge-2 : tie.Need-add-judge-2
-add-judge-2 c = let o = start (c .before .before) .pre .0 in omega (arith, o .ready .pins, o .ready .limits .few-inputs, o .ready .limits .few-cells, o .ready .limits .few-pins)
+add-t22 : tie.Need-add-t22
+add-t22 c = search needs
 
-mul-judge : tie.Need-mul-judge
-mul-judge c = let o = start (c .before .before) .pre .0 in omega (arith, o .ready .pins, o .ready .limits .few-inputs, o .ready .limits .few-cells, o .ready .limits .few-pins)
-
-slice-aggregate-judge : tie.Need-slice-aggregate-judge
-slice-aggregate-judge c = search needs
-
-slice-aggregate-judge-2 : tie.Need-slice-aggregate-judge-2
-slice-aggregate-judge-2 c = search needs
-
-slice-aggregate-judge-3 : tie.Need-slice-aggregate-judge-3
-slice-aggregate-judge-3 c = search needs
-
-slice-aggregate-judge-4 : tie.Need-slice-aggregate-judge-4
-slice-aggregate-judge-4 c = search needs
+mul-t23 : tie.Need-mul-t23
+mul-t23 c = search needs
 
 judge-requires : tie.Need-judge-requires
 judge-requires c κs =
@@ -51,7 +39,7 @@ judge-requires c κs =
 
 returns : tie.Need-returns
 returns c =
-    let j = c .before .before .before .before in
+    let j = c in
     let f = spotted (j .before) in
     let p = start f .pre in
     record {
@@ -64,12 +52,8 @@ survey-spec =
     tie.close
     (tie.spec
     find-spots-requires
-    add-judge
-    add-judge-2
-    mul-judge
-    slice-aggregate-judge
-    slice-aggregate-judge-2
-    slice-aggregate-judge-3
-    slice-aggregate-judge-4
+    add-t21
+    add-t22
+    mul-t23
     judge-requires
     returns)

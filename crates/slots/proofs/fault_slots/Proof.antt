@@ -23,8 +23,8 @@ element-copy-out-fault-slot c = search needs
 mul-fault-slot : tie.Need-mul-fault-slot Inv-loop μ-loop
 mul-fault-slot c = search needs
 
-element-copy-out-fault-slot-2 : tie.Need-element-copy-out-fault-slot-2 Inv-loop μ-loop
-element-copy-out-fault-slot-2 c = search needs
+shared-slice-read-fault-slot : tie.Need-shared-slice-read-fault-slot Inv-loop μ-loop
+shared-slice-read-fault-slot c = search needs
 
 fault-slot-requires : tie.Need-fault-slot-requires Inv-loop μ-loop
 fault-slot-requires c κs = search needs
@@ -32,8 +32,8 @@ fault-slot-requires c κs = search needs
 mul-faulty : tie.Need-mul-faulty Inv-loop μ-loop
 mul-faulty c = search needs
 
-slice-write-faulty : tie.Need-slice-write-faulty Inv-loop μ-loop
-slice-write-faulty c = omega (arith, c .before .before .before .before .loop .inv .1 .long, c .before .before .before .before .before .before .pre .0)
+element-write-faulty : tie.Need-element-write-faulty Inv-loop μ-loop
+element-write-faulty c = omega (arith, c .before .before .before .before .loop .inv .1 .long, c .before .before .before .before .before .before .pre .0)
 
 add-p : tie.Need-add-p Inv-loop μ-loop
 add-p c = search needs
@@ -45,9 +45,6 @@ loop-again : tie.Need-loop-again Inv-loop μ-loop
 loop-again c =
     let l = c .before .before .before .before .loop in
     (omega arith, fault-more _ _ _ _ _ (omega (arith, c .before .before .before .before .before .before .pre .0)) (l .inv .1) (c .fault-slot .ensures))
-
-same-length : tie.Need-same-length Inv-loop μ-loop
-same-length c = omega (arith, c .before .loop .inv .1 .long, c .before .before .before .pre .1)
 
 returns : tie.Need-returns Inv-loop μ-loop
 returns c =
@@ -63,12 +60,11 @@ fault-slots-spec =
     loop-holds
     element-copy-out-fault-slot
     mul-fault-slot
-    element-copy-out-fault-slot-2
+    shared-slice-read-fault-slot
     fault-slot-requires
     mul-faulty
-    slice-write-faulty
+    element-write-faulty
     add-p
     loop-less
     loop-again
-    same-length
     returns)

@@ -23,8 +23,8 @@ add-words c = search needs
 mul-words : tie.Need-mul-words Inv-loop μ-loop
 mul-words c = search needs
 
-slice-write-words : tie.Need-slice-write-words Inv-loop μ-loop
-slice-write-words c = search needs
+element-write-words : tie.Need-element-write-words Inv-loop μ-loop
+element-write-words c = search needs
 
 add-k : tie.Need-add-k Inv-loop μ-loop
 add-k c = search needs
@@ -34,9 +34,6 @@ loop-less c = search needs
 
 loop-again : tie.Need-loop-again Inv-loop μ-loop
 loop-again c = let l = c .before .loop in (omega arith, fill-more _ (l .k) _ _ _ _ _ (l .inv .1) (omega arith) (omega (arith, c .before .before .pre)) refl)
-
-same-length : tie.Need-same-length Inv-loop μ-loop
-same-length c = search needs
 
 returns : tie.Need-returns Inv-loop μ-loop
 returns c = let e : c .before .loop .k ≡ 16 = omega arith in rw e at (c .before .loop .inv .1)
@@ -50,9 +47,8 @@ put-ones-spec =
     loop-holds
     add-words
     mul-words
-    slice-write-words
+    element-write-words
     add-k
     loop-less
     loop-again
-    same-length
     returns)
