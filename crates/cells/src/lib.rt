@@ -1,6 +1,5 @@
 // The faults at one home tried in one chunk: the home flipped, the change carried on, the outputs looked at, and all put back.
 ghost use mathlib.Core.Path.{_≡_};
-ghost use mathlib.Core.Bool.{true};
 ghost use Prim.Native.Nat.{ℕ, _+_, _*_, _≤_, _<_};
 ghost use lib.ListN.{length, getD};
 ghost use Rattle.events.specs.Events.{Chip, Marks};

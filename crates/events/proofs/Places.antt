@@ -2,17 +2,17 @@
 use Prim.Native.Nat.{ℕ, _+_, _-_, _/_, _%_, _^_, _≤_, _<_}
 use mathlib.Core.Path.{_≡_, refl, sym, ap, _∙_}
 use mathlib.Core.Logic.{inl, inr, _≢_}
-use mathlib.Core.Bool.{true, false, _||_, or-true, or-false}
+use mathlib.Core.Bool.{true, _||_, or-true, or-false}
 use mathlib.Core.List.{List}
 use native.Mathlib.Omega.{arith}
-use native.Mathlib.Decide.{ℕ-discrete, decLt}
+use native.Mathlib.Decide.{ℕ-discrete}
 use borrow.Author.Tests.{eq-eqb, ne-eqb}
-use lib.ListN.{length, getD, set, length-set, List·getD-eq-default}
+use lib.ListN.{length, getD, set, length-set}
 use lib.Seq.{getD-set-same, getD-set-other}
 use lib.Bits.{bitAnd, bitOr}
 use Rattle.chip.specs.Search.{digit}
 use Rattle.words.specs.Bits.{LowestBit}
-use Rattle.words.proofs.Bits.{digit-or, digit-one, digit-zero}
+use Rattle.words.proofs.Bits.{digit-or, digit-one}
 use Rattle.rows.proofs.Bits.{shift, bit-below}
 use Rattle.events.specs.Events.{marked, BitPut, LowMark, Marks}
 

@@ -6,7 +6,6 @@ ghost use Prim.Native.Nat.{ℕ, _+_, _-_, _*_, _^_, _≤_, _<_};
 ghost use lib.ListN.{length, getD};
 ghost use Rattle.chip.specs.Inner.Tables.{sized};
 ghost use Rattle.chip.specs.Class.{blocks};
-ghost use Rattle.chip.specs.Faults.{stuck};
 ghost use Rattle.levels.specs.Levels.{ReachMasks};
 ghost use Rattle.pads.specs.Sources.{SourceTable};
 ghost use Rattle.structure.specs.Inner.Shape.{Ready};

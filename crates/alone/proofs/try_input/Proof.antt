@@ -1,7 +1,6 @@
 -- Without an open output in g the fault stays as it is, and otherwise its run tells the patterns that show it.
-use mathlib.Core.Path.{sym, ap, _∙_}
 use native.Mathlib.Omega.{arith}
-use lib.ListN.{length, getD}
+use lib.ListN.{getD}
 use Rattle.alone.proofs.Inputs.{input-went, input-idle}
 use borrow.Author.Needs.{needs}
 use Rattle.alone.proofs.try_input.Statement.{statement}

@@ -1,8 +1,7 @@
 -- The faults below f have gone on and all words are good again, and fault f changes only its own entries.
 use Prim.Native.Nat.{_-_, _*_, _≤_, _<_}
-use mathlib.Core.Path.{_≡_, refl, sym, ap, _∙_}
+use mathlib.Core.Path.{_≡_, refl}
 use native.Mathlib.Omega.{arith}
-use lib.ListN.{length}
 use Rattle.events.specs.Lent.{kindsOf, countsOf, inputsOf, firstsOf, orderOf, slotsOf, outsOf, variablesOf}
 use Rattle.known.specs.Setting.{Went}
 use Rattle.alone.specs.Alone.{InputStep}

@@ -1,6 +1,6 @@
 -- The first e of the 2 * o faults have gone on, and number e is the pin of output e / 2 stuck at e % 2.
 use Prim.Native.Nat.{_+_, _-_, _*_, _≤_}
-use mathlib.Core.Path.{_≡_, refl, sym, _∙_}
+use mathlib.Core.Path.{_≡_, refl}
 use native.Mathlib.Omega.{arith}
 use borrow.Author.Needs.{needs}
 use Rattle.events.specs.Lent.{outsOf}

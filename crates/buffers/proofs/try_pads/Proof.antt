@@ -1,10 +1,9 @@
 -- After j cells the faults of the pad buffers among them went on, and the good words stand again after each.
 use Prim.Native.Nat.{_-_, _≤_}
-use mathlib.Core.Path.{_≡_, sym, ap, _∙_}
+use mathlib.Core.Path.{_≡_, _∙_}
 use mathlib.Core.Logic.{⊎-elim}
 use native.Mathlib.Omega.{arith}
 use borrow.Author.Needs.{needs}
-use lib.ListN.{length}
 use Rattle.events.specs.Lent.{kindsOf, countsOf, firstsOf, orderOf, sourcesOf, netsOf, slotsOf, outsOf}
 use Rattle.known.specs.Setting.{Went}
 use Rattle.known.proofs.Steps.{went-none}

@@ -1,9 +1,6 @@
 -- Faults of inputs, of pad buffers and of output pins are three sets apart, so the three steps together take on all.
-use mathlib.Core.Path.{sym, ap, _∙_}
 use native.Mathlib.Omega.{arith}
-use lib.ListN.{length}
 use Rattle.groups.proofs.Chunks.{alone-went}
-use borrow.Author.Needs.{needs}
 use Rattle.groups.proofs.try_alone.Statement.{statement}
 use Rattle.groups.proofs.try_alone.Tie as tie
 

@@ -1,7 +1,5 @@
 -- A fault is one that is tried alone or one of another cell, and the two calls take on disjoint sets, so all faults go on.
-use mathlib.Core.Path.{sym, ap, _∙_}
 use native.Mathlib.Omega.{arith}
-use lib.ListN.{length}
 use Rattle.groups.proofs.Chunks.{ready-of, store-again, watch-alone, watch-places, chunk-tried}
 use borrow.Author.Needs.{needs}
 use Rattle.groups.proofs.try_chunk.Statement.{statement}

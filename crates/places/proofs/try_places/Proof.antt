@@ -1,8 +1,7 @@
 -- After p places their faults have gone on, and one place more changes only its own faults, since cells have different pins.
 use Prim.Native.Nat.{_-_, _≤_}
-use mathlib.Core.Path.{_≡_, sym, ap, _∙_}
+use mathlib.Core.Path.{_≡_}
 use native.Mathlib.Omega.{arith}
-use lib.ListN.{length}
 use Rattle.events.specs.Lent.{kindsOf, countsOf, firstsOf, orderOf, slotsOf, outsOf}
 use Rattle.places.specs.Places.{PlacesDone}
 use Rattle.places.proofs.Places.{places-none, places-more}
