@@ -67,6 +67,7 @@ def lemmas_of(path):
             yield name, bool(match.group(2)), k, block(lines, k, name)
 
 
+@cache
 def all_files():
     return [path for crate in tree.listed() for folder, ending in (("proofs", "antt"), ("specs", "antt"), ("src", "rt"))
             for path in tree.files(crate, folder, ending)]

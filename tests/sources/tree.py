@@ -1,5 +1,6 @@
 """The listed crates and their files."""
 
+from functools import cache
 from pathlib import Path
 
 ROOT = Path(__file__).resolve().parents[2]
@@ -30,8 +31,9 @@ def is_program(crate):
     return (CRATES / crate / "src" / "main.rt").exists()
 
 
+@cache
 def files(crate, folder, ending):
-    """The files of a crate below a folder."""
+    """The files of a crate below a folder, looked for once."""
     return sorted((CRATES / crate / folder).rglob(f"*.{ending}"))
 
 

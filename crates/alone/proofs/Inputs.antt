@@ -27,17 +27,18 @@ use Rattle.chip.proofs.Basics.{some-pin}
 use Rattle.rows.specs.Rows.{Filled, onRow}
 use Rattle.rows.proofs.Fill.{row-at}
 use Rattle.rows.proofs.Bits.{meet}
-use Rattle.events.specs.Events.{marked, Live, Marks, Chip, Agree, Marked, Ran}
+use Rattle.events.specs.Events.{marked, Live, Marks, Chip, Agree, Marked, Ran, Good}
 use Rattle.words.proofs.Lanes.{gate-same}
 use Rattle.events.proofs.Running.{outside}
 use Rattle.flip.specs.Bed.{Bed, Start, Rules}
 use Rattle.flip.proofs.Flips.{no-out, Stuck, input-lane}
 use Rattle.faults.specs.Numbers.{faultNumber}
 use Rattle.bridge.proofs.Bridge.{lane}
-use Rattle.cells.specs.Cells.{Good, Clear}
+use Rattle.cells.specs.Cells.{Clear}
 use Rattle.known.specs.Setting.{Shows, Setting, Long, runLane, Went}
 use Rattle.known.proofs.Advance.{advance-none}
-use Rattle.alone.specs.Alone.{VarPut, VarsPut, VarMarked, VarsMarked, VariableReaders, InputRan, InputTried, Variables, InputStep}
+use Rattle.stages.specs.Stage.{VariableReaders, Variables}
+use Rattle.alone.specs.Alone.{VarPut, VarsPut, VarMarked, VarsMarked, InputRan, InputTried, InputStep}
 use Rattle.known.proofs.Steps.{looked-kept, looked-advance}
 use Rattle.known.proofs.Runs.{constant, start-of, rules-of}
 

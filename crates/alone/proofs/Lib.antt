@@ -1,3 +1,2 @@
 pub mod Outs
 pub mod Inputs
-pub mod Reading

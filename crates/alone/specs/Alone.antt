@@ -2,17 +2,16 @@
 use Prim.Native.Nat.{ℕ, _+_, _-_, _*_, _/_, _%_, _≤_, _<_}
 use mathlib.Core.Path.{_≡_}
 use mathlib.Core.Logic.{_⊎_, _≢_}
-use mathlib.Core.Bool.{Bool, true, xor}
+use mathlib.Core.Bool.{Bool, true}
 use mathlib.Core.List.{List}
 use lib.ListN.{length, getD}
 use lib.Bits.{bitAnd}
-use Rattle.chip.specs.Netlist.{Netlist, allPins}
-use Rattle.chip.specs.Pads.{branchOf}
-use Rattle.chip.specs.Class.{Reach, blocks, tally}
+use Rattle.chip.specs.Netlist.{allPins}
 use Rattle.chip.specs.Inner.Tables.{tabled}
-use Rattle.chip.specs.Search.{digit, width}
+use Rattle.chip.specs.Search.{digit}
 use Rattle.events.specs.Events.{marked, Live, Obeys}
 use Rattle.homes.specs.Homes.{Looked}
+use Rattle.stages.specs.Stage.{Variables}
 use Rattle.known.specs.Setting.{Shows, Setting, Advance, GoodRun, runLane}
 
 -- the faults from a up to b
@@ -60,17 +59,6 @@ pub record VarsMarked (m x u : ℕ) (list input heads readers reach marks marks�
   pub put : (k : ℕ) → k < m → getD input (getD list k 0) 0 ≡ x → (r : ℕ) → getD heads (getD list k 0) 0 ≤ r → r < getD heads (getD list k 0 + 1) 0 → Live reach u (getD readers r 0) → marked marks′ (getD readers r 0) ≡ true
   pub only : (t : ℕ) → marked marks′ t ≡ true → (marked marks t ≡ true) ⊎ ((r : ℕ) × (r < length readers) × (t ≡ getD readers r 0))
 
--- the blocks of w variables, with the readers of each
-pub record VariableReaders (c w : ℕ) (counts firsts src order heads readers list input : List ℕ) : Type 0 where
-  pub few : w ≤ 16
-  pub listed : w ≤ length list
-  pub known : (k : ℕ) → k < w → getD list k 0 < length input
-  pub headed : (k : ℕ) → k < w → getD list k 0 + 1 < length heads
-  pub up : (k : ℕ) → k < w → getD heads (getD list k 0) 0 ≤ getD heads (getD list k 0 + 1) 0
-  pub held : (k : ℕ) → k < w → getD heads (getD list k 0 + 1) 0 ≤ length readers
-  pub reads : (k t i : ℕ) → k < w → t < c → i < getD counts (getD order t 0) 0 → getD src (getD firsts (getD order t 0) 0 + i) 0 ≡ k
-      → (r : ℕ) × (getD heads (getD list k 0) 0 ≤ r) × (r < getD heads (getD list k 0 + 1) 0) × (getD readers r 0 ≡ t)
-
 -- the run of fault f, a stuck input: its variables hold the stuck value, and all places that reach an output of u what their cells then show
 pub record InputRan (c w f u : ℕ) (kinds counts firsts src order reach list input goods vals changed : List ℕ) : Type 0 where
   pub long : length vals ≡ length goods
@@ -87,14 +75,6 @@ pub record InputTried (f c w q u : ℕ) (kinds counts firsts src order reach out
   pub changed : List ℕ
   pub ran : InputRan c w f u kinds counts firsts src order reach list input goods vals changed
   pub looked : Looked f q u (λ z. runLane (getD outs z 0) (getD outs z 0) goods vals) left best pat left′ best′ pat′
-
--- the blocks of the w variables of a group, and the input of each block; a block that reaches an output of the group is a variable
-pub record Variables (N : Netlist) (low : ℕ → ℕ) (rel : ℕ → ℕ → Bool) (g w : ℕ) (list input : List ℕ) : Type 0 where
-  pub wide : (z : ℕ) → z < 64 → digit z g ≡ true → width (blocks N low) rel z ≡ w
-  pub blocks-few : (k : ℕ) → k < w → getD list k 0 < 4160
-  pub listed : (z b : ℕ) → z < 64 → digit z g ≡ true → b < blocks N low .count → rel z b ≡ true → getD list (tally (rel z) b) 0 ≡ b
-  pub input-is : (p : ℕ) → p < allPins N → branchOf N p < N .inputs → getD input (blocks N low .block p) 0 ≡ branchOf N p
-  pub reached : (z p e : ℕ) → z < 64 → digit z g ≡ true → branchOf N p < N .inputs → Reach N z p e → rel z (blocks N low .block p) ≡ true
 
 -- fault f, a stuck input, goes on in every chip with these tables
 pub record InputStep (i c w q g : ℕ) (kinds counts firsts src order reach outs list input goods : List ℕ) (f left best pat left′ best′ pat′ : ℕ) : Type 0 where

@@ -3,11 +3,12 @@
 ghost use mathlib.Core.Path.{_≡_};
 ghost use Prim.Native.Nat.{ℕ, _+_, _-_, _*_, _≤_, _<_};
 ghost use lib.ListN.{length, getD};
-ghost use Rattle.events.specs.Events.{Chip};
+ghost use Rattle.events.specs.Events.{Chip, Good};
 ghost use Rattle.events.specs.Lent.{kindsOf, countsOf, inputsOf, firstsOf, orderOf, headsOf, readersOf, slotsOf, outsOf, variablesOf};
-ghost use Rattle.cells.specs.Cells.{Good, Clear};
+ghost use Rattle.cells.specs.Cells.{Clear};
 ghost use Rattle.known.specs.Setting.{GoodRun, Long, Went};
-ghost use Rattle.alone.specs.Alone.{Between, OutLooked, OutStep, VarPut, VarsPut, VarMarked, VarsMarked, VariableReaders, InputRan, InputTried, InputStep};
+ghost use Rattle.stages.specs.Stage.{VariableReaders};
+ghost use Rattle.alone.specs.Alone.{Between, OutLooked, OutStep, VarPut, VarsPut, VarMarked, VarsMarked, InputRan, InputTried, InputStep};
 use chip::CELLS;
 use chip::FAULTS;
 use chip::OUTPUTS;

@@ -31,10 +31,8 @@ use Rattle.walk.proofs.Walking.{ready-few, ready-laid}
 use Rattle.flip.specs.Bed.{Bed}
 use Rattle.readers.specs.Readers.{Heads, Wires, Built, Lengths}
 use Rattle.readers.proofs.Chips.{wires, chip-of, bed-of}
-use Rattle.places.proofs.Places.{apart-of}
-use Rattle.alone.specs.Alone.{Variables}
-use Rattle.alone.proofs.Reading.{reading-of}
-use Rattle.stages.specs.Stage.{Stage}
+use Rattle.stages.specs.Stage.{Variables, Stage}
+use Rattle.benches.proofs.Reading.{reading-of}
 use Rattle.benches.specs.Benches.{Blocked, BlockInputs, Fitted, Group, BlockList, Benched}
 
 -- the blocks of a chip's branches
@@ -195,7 +193,7 @@ module _ (i c o n : ℕ) (s : Shape) (kinds counts firsts nets order branches bl
             sources-are = S;
             chip = chip-of i c o (s .blocks) kinds counts branches nets firsts order block low (R .limits) (R .shaped .first-pins) (R .shaped .ordered) (R .shaped .branch-table) (F .sizes)
                 (relOf reached) z cone src (bed z few-own (G .own)) reach heads readers (B .pin-slots .long) (omega (arith, F .reach-long, R .limits .few-cells)) made;
-            apart = apart-of i c o (firstPin (tabled i c o kinds counts nets) c) kinds counts branches nets firsts src order block wired (R .shaped .ordered) (B .pin-slots .long);
+            apart = record { few-inputs = wired .heads .few-inputs; pins-long = B .pin-slots .long; cell = R .shaped .ordered .cell; pins = wired .apart };
             reading = reading-of i c o (firstPin (tabled i c o kinds counts nets) c) w g z kinds counts branches nets firsts order cone block heads readers src list input low (relOf reached) (bed z few-own (G .own)) few-own (G .own)
                 (R .shaped .branch-table) (laid .table) made known (B .listed .long) (F .inputs .long);
             variables = known;

@@ -8,7 +8,7 @@ use Rattle.chip.specs.Class.{tally}
 use Rattle.chip.specs.Search.{digit}
 use Rattle.slots.specs.Slots.{relOf, Variables, PinSlots}
 use Rattle.readers.specs.Readers.{Heads, Built, Lengths}
-use Rattle.places.specs.Places.{Covers}
+use Rattle.stages.specs.Stage.{Covers}
 
 -- ---- the chip
 

@@ -78,7 +78,7 @@ fn open_of(
     if wide(sources[i + j]) < i {
         return 0;
     }
-    places::left_at(i + j, i + c + wide(firsts[j]), wide8(counts[j]), left)
+    stages::left_at(i + j, i + c + wide(firsts[j]), wide8(counts[j]), left)
 }
 
 // The outputs left to the faults of each place before the first group.

@@ -1,11 +1,11 @@
 -- What the run of a fault tells of it, and one fault after the other.
 use Prim.Native.Nat.{ℕ, suc, _+_, _-_, _*_, _/_, _%_, _≤_, _<_}
 use mathlib.Core.Path.{_≡_, refl, sym, ap, _∙_}
-use mathlib.Core.Logic.{_↔_, inl, inr, ⊎-elim}
+use mathlib.Core.Logic.{_≢_, _⊎_, _↔_, inl, inr, ⊎-elim}
 use mathlib.Core.Bool.{Bool, true, xor, false≢true}
 use mathlib.Core.List.{List}
 use native.Mathlib.Omega.{arith}
-use native.Mathlib.Decide.{ℕ-discrete}
+use native.Mathlib.Decide.{decLt, ℕ-discrete}
 use lib.ListN.{getD}
 use lib.Bits.{bitAnd}
 use Rattle.chip.specs.Netlist.{outPin}
@@ -16,6 +16,8 @@ use Rattle.chip.specs.Search.{digit, width}
 use Rattle.chip.proofs.Basics.{sum-up}
 use Rattle.words.proofs.Bits.{digit-zero, digit-ones}
 use Rattle.flip.proofs.Flips.{run-lane}
+use Rattle.homes.specs.Homes.{numberOf}
+use Rattle.homes.proofs.Looking.{number-low, number-high}
 use Rattle.bridge.specs.Chunk.{Chunk}
 use Rattle.faults.specs.Numbers.{faultNumber}
 use Rattle.bridge.proofs.Bridge.{lane}
@@ -23,8 +25,16 @@ use Rattle.known.specs.Setting.{Shows, Setting, Long, runLane, Went}
 use Rattle.known.proofs.Steps.{looked-idle, looked-kept, looked-advance, went-both, went-same}
 use Rattle.known.proofs.Runs.{start-of, rules-of}
 use Rattle.rows.proofs.Bits.{meet}
-use Rattle.buffers.specs.Buffers.{Tables, Faulty, FaultRan, FaultStep, BufferFault, PadFault}
+use Rattle.buffers.specs.Buffers.{Tables, Faulty, FaultRan, FaultStep, PadFault}
 use Rattle.buffers.proofs.Slots.{chunk-kept}
+
+-- fault e of those of all cells, four to a cell: two of its net, and two of its pin
+abbrev pub padNumber : ℕ → ℕ → List ℕ → ℕ → ℕ
+padNumber i c firsts e = numberOf (e % 4) (i + e / 4) (i + c + getD firsts (e / 4) 0)
+
+-- fault f is one of the first m, and its cell is a pad buffer
+abbrev pub PadsBelow : ℕ → ℕ → ℕ → List ℕ → List ℕ → ℕ → Type 0
+PadsBelow m i c firsts sources f = (e : ℕ) × (e < m) × (getD sources (i + e / 4) 0 < i) × (f ≡ padNumber i c firsts e)
 
 module _ (i c o n q g : ℕ) (kinds counts firsts nets order branches reach src outs goods : List ℕ) (T : Tables i c o n q g kinds counts firsts nets order branches reach src outs goods) where
   -- ---- one fault
@@ -79,64 +89,71 @@ module _ (i c o n q g : ℕ) (kinds counts firsts nets order branches reach src 
         });
       }
 
-  -- ---- the faults of a site, and of a buffer
+  -- ---- the faults of pad buffers, four to a cell
 
-  module _ (left₀ best₀ pat₀ left best pat left′ best′ pat′ : List ℕ) where
-    pub site-went : (s : ℕ) → Went (λ x. x ≡ 2 * s) (FaultStep i c o q g kinds counts firsts nets order reach src outs goods) left₀ best₀ pat₀ left best pat
-        → Went (λ x. x ≡ 2 * s + 1) (FaultStep i c o q g kinds counts firsts nets order reach src outs goods) left best pat left′ best′ pat′
-        → Went (λ x. x / 2 ≡ s) (FaultStep i c o q g kinds counts firsts nets order reach src outs goods) left₀ best₀ pat₀ left′ best′ pat′
-    site-went s P Q =
-        went-both (FaultStep i c o q g kinds counts firsts nets order reach src outs goods) left₀ best₀ pat₀ (λ x. x ≡ 2 * s) (λ x. x ≡ 2 * s + 1) (λ x. x / 2 ≡ s) left best pat left′ best′ pat′ P Q
-        (λ x a b. omega arith)
-        (λ x e. elim (ℕ-discrete x (2 * s)) [
-          | yes a ↦ inl a
-          | no h ↦ inr (omega arith)
-        ])
-        (λ x e. ⊎-elim (λ a. omega arith) (λ a. omega arith) e)
+  -- the pins of two cells are apart
+  first-up : (j k : ℕ) → j < k → k < c → getD firsts j 0 < getD firsts k 0
+  first-up j k l h =
+      omega (arith, T .first-pins j (omega arith), T .first-pins k (omega arith), T .limits .sound .pinned j (omega arith), sum-up (λ j. getD counts j 0) (suc j) k l)
 
-    pub pad-went : (j s : ℕ) → j < c → s ≡ i + c + getD firsts j 0 → Went (λ x. x / 2 ≡ i + j) (FaultStep i c o q g kinds counts firsts nets order reach src outs goods) left₀ best₀ pat₀ left best pat
-        → Went (λ x. x / 2 ≡ s) (FaultStep i c o q g kinds counts firsts nets order reach src outs goods) left best pat left′ best′ pat′
-        → Went (BufferFault i c firsts j) (FaultStep i c o q g kinds counts firsts nets order reach src outs goods) left₀ best₀ pat₀ left′ best′ pat′
-    pad-went j s l e P Q =
-        went-both (FaultStep i c o q g kinds counts firsts nets order reach src outs goods) left₀ best₀ pat₀ (λ x. x / 2 ≡ i + j) (λ x. x / 2 ≡ s) (BufferFault i c firsts j) left best pat left′ best′ pat′ P Q
-        (λ x a b. omega arith) (λ x d. ⊎-elim (λ a. inl a) (λ a. inr (a ∙ sym e)) d) (λ x d. ⊎-elim (λ a. inl a) (λ a. inr (a ∙ e)) d)
+  pub number-of : (e : ℕ) → ((e % 4 < 2) × (padNumber i c firsts e ≡ 2 * (i + e / 4) + e % 4)) ⊎ ((2 ≤ e % 4) × (padNumber i c firsts e ≡ 2 * (i + c + getD firsts (e / 4) 0) + (e % 4 - 2)))
+  number-of e = elim (decLt (e % 4) 2) [
+    | yes l ↦ inl (l, number-low (e % 4) _ _ l)
+    | no g ↦ inr (omega arith, number-high (e % 4) _ _ (omega arith))
+  ]
 
-    -- ---- one pad buffer more
+  numbers-apart : (d e : ℕ) → d < e → e < 4 * c → padNumber i c firsts d ≢ padNumber i c firsts e
+  numbers-apart d e l h q =
+      ⊎-elim
+      (λ a. ⊎-elim (λ b. omega (arith, a, b)) (λ b. omega (arith, a, b)) (number-of e))
+      (λ a. ⊎-elim (λ b. omega (arith, a, b)) (λ b. elim (decLt (d / 4) (e / 4)) [
+        | yes y ↦ omega (arith, a, b, first-up (d / 4) (e / 4) y (omega arith))
+        | no y ↦ let same : d / 4 ≡ e / 4 = omega arith in omega (arith, a, b, ap (λ x. getD firsts x 0) same)
+      ]) (number-of e))
+      (number-of d)
 
-    first-up : (j k : ℕ) → j < k → k < c → getD firsts j 0 < getD firsts k 0
-    first-up j k l h =
-        omega (arith, T .first-pins j (omega arith), T .first-pins k (omega arith), T .limits .sound .pinned j (omega arith), sum-up (λ j. getD counts j 0) (suc j) k l)
+  module _ (sources : List ℕ) where
+    module _ (left₀ best₀ pat₀ left best pat : List ℕ) (m : ℕ) (P : Went (PadsBelow m i c firsts sources) (FaultStep i c o q g kinds counts firsts nets order reach src outs goods) left₀ best₀ pat₀ left best pat) where
+      pub pads-more : (left′ best′ pat′ : List ℕ) (f : ℕ) → m < 4 * c → getD sources (i + m / 4) 0 < i → f ≡ padNumber i c firsts m
+          → Went (λ x. x ≡ f) (FaultStep i c o q g kinds counts firsts nets order reach src outs goods) left best pat left′ best′ pat′
+          → Went (PadsBelow (m + 1) i c firsts sources) (FaultStep i c o q g kinds counts firsts nets order reach src outs goods) left₀ best₀ pat₀ left′ best′ pat′
+      pads-more left′ best′ pat′ f l y s Q =
+          went-both (FaultStep i c o q g kinds counts firsts nets order reach src outs goods) left₀ best₀ pat₀ (PadsBelow m i c firsts sources) (λ x. x ≡ f) (PadsBelow (m + 1) i c firsts sources) left best pat left′ best′ pat′ P Q
+          (λ x a b. let (e, el, ey, es) = a in numbers-apart e m el l (sym es ∙ b ∙ s))
+          (λ x a. let (e, el, ey, es) = a in elim (ℕ-discrete e m) [
+            | yes h ↦ inr (es ∙ ap (padNumber i c firsts) h ∙ sym s)
+            | no h ↦ inl (e, omega arith, ey, es)
+          ])
+          (λ x a. ⊎-elim (λ b. let (e, el, ey, es) = b in (e, omega arith, ey, es)) (λ b. (m, omega arith, y, b ∙ s)) a)
 
-    apart : (j k f : ℕ) → j < k → k < c → BufferFault i c firsts j f → ¬ BufferFault i c firsts k f
-    apart j k f l h a b = ⊎-elim (λ x. ⊎-elim (λ y. omega arith) (λ y. omega arith) b) (λ x. ⊎-elim (λ y. omega arith) (λ y. omega (arith, first-up j k l h)) b) a
+      -- the faults of a cell that is no pad buffer are passed over
+      pub pads-skip : i ≤ getD sources (i + m / 4) 0 → Went (PadsBelow (4 * (m / 4) + 4) i c firsts sources) (FaultStep i c o q g kinds counts firsts nets order reach src outs goods) left₀ best₀ pat₀ left best pat
+      pads-skip y =
+          went-same (FaultStep i c o q g kinds counts firsts nets order reach src outs goods) (PadsBelow m i c firsts sources) (PadsBelow (4 * (m / 4) + 4) i c firsts sources) left₀ best₀ pat₀ left best pat
+          (λ x a. let (e, el, ey, es) = a in (e, omega arith, ey, es))
+          (λ x a. let (e, el, ey, es) = a in elim (decLt e m) [
+            | yes h ↦ (e, h, ey, es)
+            | no h ↦
+                let d : e / 4 ≡ m / 4 = omega arith in
+                let z : getD sources (i + m / 4) 0 < i = rw d at ey in
+                absurd (omega arith)
+          ])
+          P
 
-    pub pads-more : (sources : List ℕ) (j : ℕ) → j < c → getD sources (i + j) 0 < i
-        → Went (PadFault j i c firsts sources) (FaultStep i c o q g kinds counts firsts nets order reach src outs goods) left₀ best₀ pat₀ left best pat
-        → Went (BufferFault i c firsts j) (FaultStep i c o q g kinds counts firsts nets order reach src outs goods) left best pat left′ best′ pat′
-        → Went (PadFault (j + 1) i c firsts sources) (FaultStep i c o q g kinds counts firsts nets order reach src outs goods) left₀ best₀ pat₀ left′ best′ pat′
-    pads-more sources j l y P Q =
-        went-both (FaultStep i c o q g kinds counts firsts nets order reach src outs goods) left₀ best₀ pat₀ (PadFault j i c firsts sources) (BufferFault i c firsts j) (PadFault (j + 1) i c firsts sources) left best pat left′ best′ pat′ P Q
-        (λ f a b. let (k, kl, ky, kf) = a in apart k j f kl l kf b)
-        (λ f a. let (k, kl, ky, kf) = a in elim (ℕ-discrete k j) [
-          | yes e ↦ inr (rw e at kf)
-          | no h ↦ inl (k, omega arith, ky, kf)
-        ])
-        (λ f a. ⊎-elim (λ b. let (k, kl, ky, kf) = b in (k, omega arith, ky, kf)) (λ b. (j, omega arith, y, b)) a)
+      pub pads-all : m ≡ 4 * c → Went (PadFault i c firsts sources) (FaultStep i c o q g kinds counts firsts nets order reach src outs goods) left₀ best₀ pat₀ left best pat
+      pads-all h = went-same (FaultStep i c o q g kinds counts firsts nets order reach src outs goods) (PadsBelow m i c firsts sources) (PadFault i c firsts sources) left₀ best₀ pat₀ left best pat to from P
+        where
+          to : (f : ℕ) → PadsBelow m i c firsts sources f → PadFault i c firsts sources f
+          to f (e, el, ey, es) = (e / 4, omega arith, ey, ⊎-elim (λ a. inl (omega (arith, a, es))) (λ a. inr (omega (arith, a, es))) (number-of e))
 
-  -- a cell that is no pad buffer
-  pub pads-skip : (left₀ best₀ pat₀ left best pat sources : List ℕ) (j : ℕ) → i ≤ getD sources (i + j) 0
-      → Went (PadFault j i c firsts sources) (FaultStep i c o q g kinds counts firsts nets order reach src outs goods) left₀ best₀ pat₀ left best pat
-      → Went (PadFault (j + 1) i c firsts sources) (FaultStep i c o q g kinds counts firsts nets order reach src outs goods) left₀ best₀ pat₀ left best pat
-  pads-skip left₀ best₀ pat₀ left best pat sources j y P =
-      went-same (FaultStep i c o q g kinds counts firsts nets order reach src outs goods) (PadFault j i c firsts sources) (PadFault (j + 1) i c firsts sources) left₀ best₀ pat₀ left best pat
-      (λ f a. let (k, kl, ky, kf) = a in (k, omega arith, ky, kf))
-      (λ f a. let (k, kl, ky, kf) = a in elim (ℕ-discrete k j) [
-        | yes e ↦ let z : getD sources (i + j) 0 < i = rw e at ky in absurd (omega arith)
-        | no h ↦ (k, omega arith, ky, kf)
-      ])
-      P
-
-  pub pads-all : (left₀ best₀ pat₀ left best pat sources : List ℕ) (k : ℕ) → k ≡ c
-      → Went (PadFault k i c firsts sources) (FaultStep i c o q g kinds counts firsts nets order reach src outs goods) left₀ best₀ pat₀ left best pat
-      → Went (PadFault c i c firsts sources) (FaultStep i c o q g kinds counts firsts nets order reach src outs goods) left₀ best₀ pat₀ left best pat
-  pads-all left₀ best₀ pat₀ left best pat sources k e P = rw e at P
+          from : (f : ℕ) → PadFault i c firsts sources f → PadsBelow m i c firsts sources f
+          from f (j, jl, jy, inl a) =
+              let d : (4 * j + f % 2) / 4 ≡ j = omega arith in
+              (4 * j + f % 2, omega arith, rw d jy, omega (arith, a, number-low ((4 * j + f % 2) % 4) (i + (4 * j + f % 2) / 4) (i + c + getD firsts ((4 * j + f % 2) / 4) 0) (omega arith)))
+          from f (j, jl, jy, inr a) =
+              let d : (4 * j + f % 2 + 2) / 4 ≡ j = omega arith in (
+                4 * j + f % 2 + 2,
+                omega arith,
+                rw d jy,
+                omega (arith, a, ap (λ x. getD firsts x 0) d, number-high ((4 * j + f % 2 + 2) % 4) (i + (4 * j + f % 2 + 2) / 4) (i + c + getD firsts ((4 * j + f % 2 + 2) / 4) 0) (omega arith)),
+              )

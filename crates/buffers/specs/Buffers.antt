@@ -52,10 +52,6 @@ pub record FaultStep (i c o q g : ℕ) (kinds counts firsts nets order reach src
 
 -- ---- the faults of pad buffers
 
--- fault f is one of the net or of the pin of cell j
-abbrev pub BufferFault : ℕ → ℕ → List ℕ → ℕ → ℕ → Type 0
-BufferFault i c firsts j f = (f / 2 ≡ i + j) ⊎ (f / 2 ≡ i + c + getD firsts j 0)
-
--- fault f is one of a pad buffer among the first k cells
-abbrev pub PadFault : ℕ → ℕ → ℕ → List ℕ → List ℕ → ℕ → Type 0
-PadFault k i c firsts sources f = (j : ℕ) × (j < k) × (getD sources (i + j) 0 < i) × BufferFault i c firsts j f
+-- fault f is one of the net or of the pin of a pad buffer
+abbrev pub PadFault : ℕ → ℕ → List ℕ → List ℕ → ℕ → Type 0
+PadFault i c firsts sources f = (j : ℕ) × (j < c) × (getD sources (i + j) 0 < i) × ((f / 2 ≡ i + j) ⊎ (f / 2 ≡ i + c + getD firsts j 0))

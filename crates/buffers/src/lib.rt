@@ -11,7 +11,7 @@ ghost use Rattle.order.specs.Order.{Ordered};
 ghost use Rattle.events.specs.Events.{Chip};
 ghost use Rattle.events.specs.Lent.{kindsOf, countsOf, firstsOf, orderOf, sourcesOf, netsOf, branchesOf, slotsOf, outsOf};
 ghost use Rattle.known.specs.Setting.{Long, Went};
-ghost use Rattle.buffers.specs.Buffers.{Tables, Faulty, FaultRan, FaultStep, BufferFault, PadFault};
+ghost use Rattle.buffers.specs.Buffers.{Tables, Faulty, FaultRan, FaultStep, PadFault};
 use chip::CELLS;
 use chip::FAULTS;
 use chip::OUTPUTS;
@@ -164,112 +164,7 @@ fn try_fault<'a, 'b, 'c>(
     }
 }
 
-// Tries the two faults of a site.
-fn try_site<'a, 'b, 'c>(
-    s: usize,
-    trial: Trial,
-    bytes: [&'a [u8]; 3],
-    tables: [&'a [u16]; 5],
-    pins: [&'c [u16; PINS]; 3],
-    group: [&'b [u16]; 3],
-    reach: &[u64; CELLS],
-    goods: &[u64; WORDS],
-    vals: &mut [u64; WORDS],
-    left: &mut [u64; FAULTS],
-    best: &mut [u8; FAULTS],
-    pat: &mut [u32; FAULTS],
-)
-    requires { ⌜ s < trial .inputs + trial .cells + trial .pins ⌝ }
-    requires { ⌜ Tables (trial .inputs) (trial .cells) (trial .outputs) (trial .pins) (trial .chunk) (trial .at) (kindsOf bytes) (countsOf bytes) (firstsOf tables) (netsOf pins) (orderOf tables) (branchesOf pins) (now reach) (slotsOf group) (outsOf group) (now goods) ⌝ }
-    requires { ⌜ (now vals ≡ now goods) × Long (now left) (now best) (now pat) ⌝ }
-    ensures { λ _. ⌜ Went (λ x. x / 2 ≡ s) (FaultStep (trial .inputs) (trial .cells) (trial .outputs) (trial .chunk) (trial .at) (kindsOf (bytes .entry)) (countsOf (bytes .entry)) (firstsOf (tables .entry)) (netsOf (pins .entry)) (orderOf (tables .entry)) (now (reach .entry)) (slotsOf (group .entry)) (outsOf (group .entry)) (now (goods .entry))) (now (left .entry)) (now (best .entry)) (now (pat .entry)) (now (left .exit)) (now (best .exit)) (now (pat .exit)) ⌝ }
-    ensures { λ _. ⌜ now (vals .exit) ≡ now (goods .entry) ⌝ }
-{
-    try_fault(
-        2 * s,
-        trial,
-        bytes,
-        tables,
-        pins,
-        group,
-        reach,
-        goods,
-        vals,
-        left,
-        best,
-        pat,
-    );
-    try_fault(
-        2 * s + 1,
-        trial,
-        bytes,
-        tables,
-        pins,
-        group,
-        reach,
-        goods,
-        vals,
-        left,
-        best,
-        pat,
-    );
-}
-
-// Tries the faults of the net and of the first pin of cell j.
-fn try_pad<'a, 'b, 'c>(
-    j: usize,
-    trial: Trial,
-    bytes: [&'a [u8]; 3],
-    tables: [&'a [u16]; 5],
-    pins: [&'c [u16; PINS]; 3],
-    group: [&'b [u16]; 3],
-    reach: &[u64; CELLS],
-    goods: &[u64; WORDS],
-    vals: &mut [u64; WORDS],
-    left: &mut [u64; FAULTS],
-    best: &mut [u8; FAULTS],
-    pat: &mut [u32; FAULTS],
-)
-    requires { ⌜ j < trial .cells ⌝ }
-    requires { ⌜ Tables (trial .inputs) (trial .cells) (trial .outputs) (trial .pins) (trial .chunk) (trial .at) (kindsOf bytes) (countsOf bytes) (firstsOf tables) (netsOf pins) (orderOf tables) (branchesOf pins) (now reach) (slotsOf group) (outsOf group) (now goods) ⌝ }
-    requires { ⌜ (now vals ≡ now goods) × Long (now left) (now best) (now pat) ⌝ }
-    ensures { λ _. ⌜ Went (BufferFault (trial .inputs) (trial .cells) (firstsOf (tables .entry)) j) (FaultStep (trial .inputs) (trial .cells) (trial .outputs) (trial .chunk) (trial .at) (kindsOf (bytes .entry)) (countsOf (bytes .entry)) (firstsOf (tables .entry)) (netsOf (pins .entry)) (orderOf (tables .entry)) (now (reach .entry)) (slotsOf (group .entry)) (outsOf (group .entry)) (now (goods .entry))) (now (left .entry)) (now (best .entry)) (now (pat .entry)) (now (left .exit)) (now (best .exit)) (now (pat .exit)) ⌝ }
-    ensures { λ _. ⌜ now (vals .exit) ≡ now (goods .entry) ⌝ }
-{
-    let i = trial.inputs;
-    let c = trial.cells;
-    let firsts = tables[FIRST];
-    try_site(
-        i + j,
-        trial,
-        bytes,
-        tables,
-        pins,
-        group,
-        reach,
-        goods,
-        vals,
-        left,
-        best,
-        pat,
-    );
-    try_site(
-        i + c + wide(firsts[j]),
-        trial,
-        bytes,
-        tables,
-        pins,
-        group,
-        reach,
-        goods,
-        vals,
-        left,
-        best,
-        pat,
-    );
-}
-
-// Tries the faults of all pad buffers, the cells whose net has an input as its source.
+// Tries the faults of all pad buffers, the cells whose net has an input as its source: four of each, those of its net and those of its pin.
 pub fn try_pads<'a, 'b, 'c>(
     trial: Trial,
     bytes: [&'a [u8]; 3],
@@ -286,16 +181,20 @@ pub fn try_pads<'a, 'b, 'c>(
     requires { ⌜ length (sourcesOf tables) ≡ 1088 ⌝ }
     requires { ⌜ Tables (trial .inputs) (trial .cells) (trial .outputs) (trial .pins) (trial .chunk) (trial .at) (kindsOf bytes) (countsOf bytes) (firstsOf tables) (netsOf pins) (orderOf tables) (branchesOf pins) (now reach) (slotsOf group) (outsOf group) (now goods) ⌝ }
     requires { ⌜ (now vals ≡ now goods) × Long (now left) (now best) (now pat) ⌝ }
-    ensures { λ _. ⌜ Went (PadFault (trial .cells) (trial .inputs) (trial .cells) (firstsOf (tables .entry)) (sourcesOf (tables .entry))) (FaultStep (trial .inputs) (trial .cells) (trial .outputs) (trial .chunk) (trial .at) (kindsOf (bytes .entry)) (countsOf (bytes .entry)) (firstsOf (tables .entry)) (netsOf (pins .entry)) (orderOf (tables .entry)) (now (reach .entry)) (slotsOf (group .entry)) (outsOf (group .entry)) (now (goods .entry))) (now (left .entry)) (now (best .entry)) (now (pat .entry)) (now (left .exit)) (now (best .exit)) (now (pat .exit)) ⌝ }
+    ensures { λ _. ⌜ Went (PadFault (trial .inputs) (trial .cells) (firstsOf (tables .entry)) (sourcesOf (tables .entry))) (FaultStep (trial .inputs) (trial .cells) (trial .outputs) (trial .chunk) (trial .at) (kindsOf (bytes .entry)) (countsOf (bytes .entry)) (firstsOf (tables .entry)) (netsOf (pins .entry)) (orderOf (tables .entry)) (now (reach .entry)) (slotsOf (group .entry)) (outsOf (group .entry)) (now (goods .entry))) (now (left .entry)) (now (best .entry)) (now (pat .entry)) (now (left .exit)) (now (best .exit)) (now (pat .exit)) ⌝ }
     ensures { λ _. ⌜ now (vals .exit) ≡ now (goods .entry) ⌝ }
 {
     let i = trial.inputs;
     let c = trial.cells;
+    let firsts = tables[FIRST];
     let sources = tables[SOURCE];
-    for j in 0..c {
+    let mut e = 0;
+    while e < 4 * c {
+        let j = e / 4;
         if wide(sources[i + j]) < i {
-            try_pad(
-                j,
+            let f = homes::number(e % 4, i + j, i + c + wide(firsts[j]));
+            try_fault(
+                f,
                 trial,
                 bytes,
                 tables,
@@ -308,6 +207,9 @@ pub fn try_pads<'a, 'b, 'c>(
                 best,
                 pat,
             );
+            e += 1;
+        } else {
+            e = 4 * j + 4;
         }
     }
 }

@@ -14,7 +14,7 @@ ghost use Rattle.netlist.specs.Answer.{tablesOf};
 ghost use Rattle.opening.specs.Open.{netlistOf, IsOpen, OpenIs};
 ghost use Rattle.faults.specs.Numbers.{faultNumber};
 ghost use Rattle.spots.specs.Spots.{Spots};
-ghost use Rattle.search.specs.Inner.Answered.{Looked, Surveyed};
+ghost use Rattle.findings.specs.Answered.{Looked, Surveyed};
 use chip::Checked;
 use chip::Classed;
 use chip::FAULTS;
@@ -27,9 +27,9 @@ use chip::Setting;
 use chip::Sizes;
 use chip::Transformed;
 use chip::VariableTable;
+use findings::Findings;
 use netlist::Tables;
 use opening::Chip;
-use search::Findings;
 use structure::Shape;
 
 // The six calls on a file.
@@ -191,5 +191,5 @@ pub fn search_listed<'a>(
         → Spots (sized z kinds counts nets) (s .depth) reached (now (spots .entry))
         → SearchOn (sized z kinds counts nets) (faultNumber (z .inputs + z .cells) f) (now (play .entry)) (r, now (play .exit))) ⌝ }
 {
-    search::search_listed(z, s, f, wides, sites, widths, best, pat, spots, play)
+    findings::search_listed(z, s, f, wides, sites, widths, best, pat, spots, play)
 }

@@ -12,10 +12,10 @@ use Rattle.chip.specs.Search.{digit}
 use Rattle.words.proofs.Bits.{digit-zero}
 use Rattle.rows.specs.Rows.{Filled}
 use Rattle.rows.proofs.Bits.{split, meet}
-use Rattle.events.specs.Events.{BitPut, Marks, Chip, Marked, Ran}
+use Rattle.events.specs.Events.{BitPut, Marks, Chip, Marked, Ran, Good}
 use Rattle.events.proofs.Running.{outside, behind-obeys, still-obeys, unmoved}
 use Rattle.homes.specs.Homes.{homeWord, numberOf, homeLane, SeenAt, LookedHome, HomeLanes}
-use Rattle.cells.specs.Cells.{Good, Clear, FlipRan, HomeTried}
+use Rattle.cells.specs.Cells.{Clear, FlipRan, HomeTried}
 
 module _ (c : ℕ) (kinds counts firsts src order reach heads readers : List ℕ) (C : Chip c kinds counts firsts src order reach heads readers)
     (u p j : ℕ) (h : p < c) (e : j ≡ getD order p 0) (acc vals vals₁ marks marks₁ changed changed₁ : List ℕ) (Km : Clear marks) (Kc : Clear changed)

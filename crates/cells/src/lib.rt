@@ -2,10 +2,10 @@
 ghost use mathlib.Core.Path.{_≡_};
 ghost use Prim.Native.Nat.{ℕ, _+_, _*_, _≤_, _<_};
 ghost use lib.ListN.{length, getD};
-ghost use Rattle.events.specs.Events.{Chip, Marks};
+ghost use Rattle.events.specs.Events.{Chip, Marks, Good};
 ghost use Rattle.events.specs.Lent.{kindsOf, countsOf, firstsOf, orderOf, headsOf, readersOf, slotsOf, outsOf};
 ghost use Rattle.homes.specs.Homes.{Home, LookedHome, HomeLanes};
-ghost use Rattle.cells.specs.Cells.{Good, Clear, FlipRan, HomeTried};
+ghost use Rattle.cells.specs.Cells.{Clear, FlipRan, HomeTried};
 use chip::CELLS;
 use chip::FAULTS;
 use chip::wide;
@@ -21,7 +21,14 @@ use rows::ROW;
 use rows::WORDS;
 
 // Marks the readers of cell j.
-fn mark_readers(j: usize, u: u64, heads: &[u16], readers: &[u16], reach: &[u64], marks: &mut [u64])
+fn mark_readers(
+    j: usize,
+    u: u64,
+    heads: &[u16],
+    readers: &[u16],
+    reach: &[u64; CELLS],
+    marks: &mut [u64; MARKS],
+)
     requires { ⌜ (j < 1024) × (4160 + j + 1 < length (now heads)) × (getD (now heads) (4160 + j) 0 ≤ getD (now heads) (4160 + j + 1) 0) × (getD (now heads) (4160 + j + 1) 0 ≤ length (now readers)) × (length (now marks) ≡ 16) ⌝ }
     requires { ⌜ ((r : ℕ) → r < length (now readers) → (getD (now readers) r 0 < 1024) × (getD (now readers) r 0 < length (now reach))) ⌝ }
     ensures { λ _. ⌜ Marks (getD (now (heads .entry)) (4160 + j) 0) (getD (now (heads .entry)) (4160 + j + 1) 0) u (now (readers .entry)) (now (reach .entry)) (now (marks .entry)) (now (marks .exit)) ⌝ }

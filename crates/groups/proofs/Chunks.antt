@@ -1,23 +1,17 @@
 -- One chunk: its good words, the faults that are runs of their own, and those of all other cells.
-use Prim.Native.Nat.{ℕ, _+_, _-_, _*_, _^_, _≤_, _<_}
+use Prim.Native.Nat.{ℕ, _+_, _-_, _*_, _^_, _<_}
 use mathlib.Core.Path.{_≡_, refl, sym, ap, _∙_}
 use mathlib.Core.Logic.{_≢_, _⊎_, inl, inr}
 use mathlib.Core.Bool.{Bool, true, false, false≢true}
 use mathlib.Core.List.{List}
 use native.Mathlib.Omega.{arith}
-use native.Mathlib.Decide.{decLt}
 use lib.ListN.{getD}
 use lib.Bits.{bitAnd, and-le-r}
 use Rattle.chip.specs.Inner.Tables.{tabled}
 use Rattle.chip.specs.Pads.{padBuffer}
 use Rattle.chip.specs.Search.{digit}
 use Rattle.words.proofs.Bits.{digit-zero, word-zero}
-use Rattle.rows.specs.Rows.{Filled}
-use Rattle.events.specs.Events.{Chip, Worked}
-use Rattle.bridge.specs.Chunk.{Chunk}
-use Rattle.cells.proofs.Trying.{same-table}
-use Rattle.patterns.specs.Variables.{Variables}
-use Rattle.patterns.proofs.Setting.{chunk-of}
+use Rattle.patterns.specs.Words.{GoodWords}
 use Rattle.known.specs.Setting.{Setting, GoodRun, Went}
 use Rattle.rows.proofs.Bits.{split, meet}
 use Rattle.alone.specs.Alone.{Between, OutStep, InputStep}
@@ -25,40 +19,8 @@ use Rattle.known.proofs.Steps.{went-both, went-same}
 use Rattle.buffers.specs.Buffers.{PadFault, FaultStep}
 use Rattle.places.specs.Places.{PlacesDone, faultOf}
 use Rattle.stages.specs.Stage.{Watch, OutsOnly, Stage}
-use Rattle.groups.specs.Chunks.{Store, GoodWords, AtHome, Alone, ChunkStep, ChunkTried}
+use Rattle.groups.specs.Chunks.{AtHome, Alone, ChunkStep, ChunkTried}
 use Rattle.groups.proofs.Sorts.{sorted, home-only, input-buffer, alone-out}
-
--- ---- the good words
-
-pub good-words : (c w q u : ℕ) (kinds counts firsts src order reach heads readers goods vals goods₁ goods₂ vals₁ : List ℕ) → w ≤ 16
-    → Chip c kinds counts firsts src order reach heads readers → ((t : ℕ) → t < c → getD order t 0 < c) → Store c goods vals → Variables w q goods goods₁
-    → Worked c u kinds counts firsts src order reach goods₁ goods₂ c → Filled 0 (16 * (16 + c)) (λ x. getD goods₂ x 0) vals vals₁
-    → GoodWords c w q u kinds counts firsts src order reach goods₂ vals₁
-good-words c w q u kinds counts firsts src order reach heads readers goods vals goods₁ goods₂ vals₁ wl H inside S K W F =
-    record {
-      words = W .long ∙ K .long ∙ S .words;
-      chunk = record {
-        bits = λ s k l a b d. ap (digit l) (W .others (16 * s + k) (λ t h e. omega arith)) ∙ C .bits s k l a b d;
-        zeros = λ k b. W .others (16 * 1040 + k) (λ t h e. omega (arith, H .cell t h)) ∙ C .zeros k b;
-        ones = λ k b. W .others (16 * 1041 + k) (λ t h e. omega (arith, H .cell t h)) ∙ C .ones k b;
-      };
-      good = record { obeys = λ t h v. W .obeys t h v };
-      same = same-table vals₁ goods₂ (F .long ∙ S .runs ∙ sym (W .long ∙ K .long ∙ S .words)) same;
-    }
-  where
-    C : Chunk w q goods₁
-    C = chunk-of w q goods goods₁ wl (S .zeros) (S .ones) K
-
-    same : (x : ℕ) → getD vals₁ x 0 ≡ getD goods₂ x 0
-    same x = elim (decLt x (16 * (16 + c))) [
-      | yes l ↦ let e : 0 + x ≡ x = omega arith in ap (λ y. getD vals₁ y 0) (sym e) ∙ F .done x l
-      | no g ↦
-          F .above x (omega arith) ∙ S .beyond x (omega arith) ∙ sym (K .others x (omega arith)) ∙ sym (W .others x (λ t h e. omega (arith, inside t h)))
-    ]
-
-pub store-again : (c w q u : ℕ) (kinds counts firsts src order reach goods vals vals′ : List ℕ) → GoodWords c w q u kinds counts firsts src order reach goods vals → vals′ ≡ goods → Store c goods vals′
-store-again c w q u kinds counts firsts src order reach goods vals vals′ G e =
-    record { words = G .words; runs = rw e (G .words); zeros = G .chunk .zeros; ones = G .chunk .ones; beyond = λ x l. ap (λ a. getD a x 0) e }
 
 -- ---- what a group's tables give for a chunk
 
@@ -102,33 +64,33 @@ module _ (i c o n w u q : ℕ) (kinds counts firsts nets order branches sources 
 
   pub alone-went : (left best pat left₁ best₁ pat₁ left₂ best₂ pat₂ left₃ best₃ pat₃ : List ℕ)
       → Went (λ f. f < 2 * i) (InputStep i c w q u kinds counts firsts src order reach outs list input goods) left best pat left₁ best₁ pat₁
-      → Went (PadFault c i c firsts sources) (FaultStep i c o q u kinds counts firsts nets order reach src outs goods) left₁ best₁ pat₁ left₂ best₂ pat₂
+      → Went (PadFault i c firsts sources) (FaultStep i c o q u kinds counts firsts nets order reach src outs goods) left₁ best₁ pat₁ left₂ best₂ pat₂
       → Went (Between (2 * (i + c + n - o)) (2 * (i + c + n))) (OutStep i c o n q u outs goods) left₂ best₂ pat₂ left₃ best₃ pat₃
       → Went (Alone i c o n firsts sources) Step left best pat left₃ best₃ pat₃
   alone-went left best pat left₁ best₁ pat₁ left₂ best₂ pat₂ left₃ best₃ pat₃ A B C =
-      went-same Step (λ f. ((f < 2 * i) ⊎ PadFault c i c firsts sources f) ⊎ Between (2 * (i + c + n - o)) (2 * (i + c + n)) f) (Alone i c o n firsts sources) left best pat left₃ best₃ pat₃ to from
-      (went-both Step left best pat (λ f. (f < 2 * i) ⊎ PadFault c i c firsts sources f) (Between (2 * (i + c + n - o)) (2 * (i + c + n)))
-      (λ f. ((f < 2 * i) ⊎ PadFault c i c firsts sources f) ⊎ Between (2 * (i + c + n - o)) (2 * (i + c + n)) f) left₂ best₂ pat₂ left₃ best₃ pat₃
-      (went-both Step left best pat (λ f. f < 2 * i) (PadFault c i c firsts sources) (λ f. (f < 2 * i) ⊎ PadFault c i c firsts sources f) left₁ best₁ pat₁ left₂ best₂ pat₂ a b
+      went-same Step (λ f. ((f < 2 * i) ⊎ PadFault i c firsts sources f) ⊎ Between (2 * (i + c + n - o)) (2 * (i + c + n)) f) (Alone i c o n firsts sources) left best pat left₃ best₃ pat₃ to from
+      (went-both Step left best pat (λ f. (f < 2 * i) ⊎ PadFault i c firsts sources f) (Between (2 * (i + c + n - o)) (2 * (i + c + n)))
+      (λ f. ((f < 2 * i) ⊎ PadFault i c firsts sources f) ⊎ Between (2 * (i + c + n - o)) (2 * (i + c + n)) f) left₂ best₂ pat₂ left₃ best₃ pat₃
+      (went-both Step left best pat (λ f. f < 2 * i) (PadFault i c firsts sources) (λ f. (f < 2 * i) ⊎ PadFault i c firsts sources f) left₁ best₁ pat₁ left₂ best₂ pat₂ a b
       (λ f x y. input-buffer i c o n kinds counts nets firsts order sources (S .limits) (S .pins) (S .first-pins) (S .ordered) (S .sources-are) f x y) (λ f x. x) (λ f x. x))
       d (λ f x y. alone-out i c o n kinds counts nets firsts order sources (S .limits) (S .pins) (S .first-pins) (S .ordered) (S .sources-are) f x y) (λ f x. x) (λ f x. x))
     where
       a : Went (λ f. f < 2 * i) Step left best pat left₁ best₁ pat₁
       a = went-map (λ f. f < 2 * i) _ Step left best pat left₁ best₁ pat₁ (λ f l b p l′ b′ p′ m s. record { advance = λ cone low rel X U h. s .advance o nets cone low rel X U }) A
 
-      b : Went (PadFault c i c firsts sources) Step left₁ best₁ pat₁ left₂ best₂ pat₂
-      b = went-map (PadFault c i c firsts sources) _ Step left₁ best₁ pat₁ left₂ best₂ pat₂ (λ f l b p l′ b′ p′ m s. record { advance = λ cone low rel X U h. s .advance cone low rel X }) B
+      b : Went (PadFault i c firsts sources) Step left₁ best₁ pat₁ left₂ best₂ pat₂
+      b = went-map (PadFault i c firsts sources) _ Step left₁ best₁ pat₁ left₂ best₂ pat₂ (λ f l b p l′ b′ p′ m s. record { advance = λ cone low rel X U h. s .advance cone low rel X }) B
 
       d : Went (Between (2 * (i + c + n - o)) (2 * (i + c + n))) Step left₂ best₂ pat₂ left₃ best₃ pat₃
       d = went-map (Between (2 * (i + c + n - o)) (2 * (i + c + n))) _ Step left₂ best₂ pat₂ left₃ best₃ pat₃
           (λ f l b p l′ b′ p′ m s. record { advance = λ cone low rel X U h. s .advance kinds counts nets firsts order cone reach src low rel X R (S .pins) (λ y e. h y (m .0) e) }) C
 
-      to : (f : ℕ) → ((f < 2 * i) ⊎ PadFault c i c firsts sources f) ⊎ Between (2 * (i + c + n - o)) (2 * (i + c + n)) f → Alone i c o n firsts sources f
+      to : (f : ℕ) → ((f < 2 * i) ⊎ PadFault i c firsts sources f) ⊎ Between (2 * (i + c + n - o)) (2 * (i + c + n)) f → Alone i c o n firsts sources f
       to f (inl (inl x)) = inl x
       to f (inl (inr x)) = inr (inl x)
       to f (inr x) = inr (inr x)
 
-      from : (f : ℕ) → Alone i c o n firsts sources f → ((f < 2 * i) ⊎ PadFault c i c firsts sources f) ⊎ Between (2 * (i + c + n - o)) (2 * (i + c + n)) f
+      from : (f : ℕ) → Alone i c o n firsts sources f → ((f < 2 * i) ⊎ PadFault i c firsts sources f) ⊎ Between (2 * (i + c + n - o)) (2 * (i + c + n)) f
       from f (inl x) = inl (inl x)
       from f (inr (inl x)) = inl (inr x)
       from f (inr (inr x)) = inr x

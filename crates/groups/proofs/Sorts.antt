@@ -16,7 +16,7 @@ use Rattle.chip.proofs.Basics.{sum-up}
 use Rattle.chip.proofs.Pads.{ltb-lt, pin-one, pad-pin}
 use Rattle.order.specs.Order.{Ordered}
 use Rattle.alone.specs.Alone.{Between}
-use Rattle.places.proofs.Places.{number-net, number-pin}
+use Rattle.homes.proofs.Looking.{number-low, number-high}
 use Rattle.pads.specs.Sources.{SourceTable}
 use Rattle.buffers.specs.Buffers.{PadFault}
 use Rattle.groups.specs.Chunks.{AtHome, Alone}
@@ -46,7 +46,7 @@ module _ (i c o n : ℕ) (kinds counts nets firsts order sources : List ℕ) (L 
 
   -- a fault of a cell's net or pin
   of-net : (j v : ℕ) → j < c → v < 2 → (b : Bool) → padBuffer (tabled i c o kinds counts nets) j ≡ b
-      → PadFault c i c firsts sources (2 * (i + j) + v) ⊎ AtHome i c (tabled i c o kinds counts nets) counts firsts order (2 * (i + j) + v)
+      → PadFault i c firsts sources (2 * (i + j) + v) ⊎ AtHome i c (tabled i c o kinds counts nets) counts firsts order (2 * (i + j) + v)
   of-net j v l b true q = inl (j, l, pad-low j l q, inl (omega arith))
   of-net j v l b false q =
       let (h, s) = O .placed j l in
@@ -56,11 +56,11 @@ module _ (i c o n : ℕ) (kinds counts nets firsts order sources : List ℕ) (L 
         in-order = h;
         own = rw s q;
         one = omega arith;
-        is = sym (number-net v (i + getD order (O .place j) 0) (i + c + getD firsts (getD order (O .place j) 0) 0) b ∙ ap (λ x. 2 * (i + x) + v) s);
+        is = sym (number-low v (i + getD order (O .place j) 0) (i + c + getD firsts (getD order (O .place j) 0) 0) b ∙ ap (λ x. 2 * (i + x) + v) s);
       })
 
   of-pin : (j p v : ℕ) → PinOf (tabled i c o kinds counts nets) j p → v < 2 → (b : Bool) → padBuffer (tabled i c o kinds counts nets) j ≡ b
-      → PadFault c i c firsts sources (2 * (i + c + p) + v) ⊎ AtHome i c (tabled i c o kinds counts nets) counts firsts order (2 * (i + c + p) + v)
+      → PadFault i c firsts sources (2 * (i + c + p) + v) ⊎ AtHome i c (tabled i c o kinds counts nets) counts firsts order (2 * (i + c + p) + v)
   of-pin j p v w b true q =
       let s : p ≡ getD firsts j 0 = pad-pin (tabled i c o kinds counts nets) j p w (ltb-lt _ _ q) ∙ sym (first-is j (w .cell)) in
       inl (j, w .cell, pad-low j (w .cell) q, inr (omega arith))
@@ -75,7 +75,7 @@ module _ (i c o n : ℕ) (kinds counts nets firsts order sources : List ℕ) (L 
         in-order = h;
         own = rw s q;
         one = rw s (omega (arith, w .from, w .to));
-        is = omega (arith, number-pin x (i + getD order (O .place j) 0) (i + c + getD firsts (getD order (O .place j) 0) 0) (omega arith), w .from);
+        is = omega (arith, number-high x (i + getD order (O .place j) 0) (i + c + getD firsts (getD order (O .place j) 0) 0) (omega arith), w .from);
       })
 
   pub sorted : (f : ℕ) → f < 2 * (i + c + n) → Alone i c o n firsts sources f ⊎ AtHome i c (tabled i c o kinds counts nets) counts firsts order f
@@ -108,14 +108,14 @@ module _ (i c o n : ℕ) (kinds counts nets firsts order sources : List ℕ) (L 
       let l : j < c = O .cell (H .place) (H .in-order) in
       let a : getD firsts (getD order (H .place) 0) 0 ≡ firstPin (tabled i c o kinds counts nets) j = first-is j l in
       elim (decLt (H .fault) 2) [
-        | yes y ↦ record { cell = j; there = l; own = H .own; is = inl (omega (arith, H .is, number-net (H .fault) (i + getD order (H .place) 0) (i + c + getD firsts (getD order (H .place) 0) 0) y)) }
+        | yes y ↦ record { cell = j; there = l; own = H .own; is = inl (omega (arith, H .is, number-low (H .fault) (i + getD order (H .place) 0) (i + c + getD firsts (getD order (H .place) 0) 0) y)) }
         | no g ↦ record {
           cell = j;
           there = l;
           own = H .own;
           is = inr (
             getD firsts (getD order (H .place) 0) 0 + (H .fault - 2) / 2,
-            omega (arith, H .is, number-pin (H .fault) (i + getD order (H .place) 0) (i + c + getD firsts (getD order (H .place) 0) 0) (omega arith)),
+            omega (arith, H .is, number-high (H .fault) (i + getD order (H .place) 0) (i + c + getD firsts (getD order (H .place) 0) 0) (omega arith)),
             record { cell = l; from = omega arith; to = omega (arith, H .one) },
           );
         }
@@ -148,9 +148,9 @@ module _ (i c o n : ℕ) (kinds counts nets firsts order sources : List ℕ) (L 
       go (inr (inr a)) S = ⊎-elim (λ x. omega (arith, S .there)) (λ x. let (p, q, w) = x in omega (arith, pin-low (S .cell) p w)) (S .is)
 
   -- the sorts of faults that are runs of their own are apart
-  pub input-buffer : (f : ℕ) → f < 2 * i → PadFault c i c firsts sources f → ⊥
+  pub input-buffer : (f : ℕ) → f < 2 * i → PadFault i c firsts sources f → ⊥
   input-buffer f a (j, l, h, B) = ⊎-elim (λ y. omega arith) (λ y. omega arith) B
 
-  pub alone-out : (f : ℕ) → (f < 2 * i) ⊎ PadFault c i c firsts sources f → Between (2 * (i + c + n - o)) (2 * (i + c + n)) f → ⊥
+  pub alone-out : (f : ℕ) → (f < 2 * i) ⊎ PadFault i c firsts sources f → Between (2 * (i + c + n - o)) (2 * (i + c + n)) f → ⊥
   alone-out f (inl a) b = omega arith
   alone-out f (inr (j, l, h, B)) b = ⊎-elim (λ y. omega arith) (λ y. omega (arith, pin-low j (getD firsts j 0) (first-own j l))) B

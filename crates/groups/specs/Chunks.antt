@@ -4,36 +4,17 @@ use mathlib.Core.Path.{_≡_}
 use mathlib.Core.Logic.{_⊎_}
 use mathlib.Core.Bool.{Bool, true, false}
 use mathlib.Core.List.{List}
-use lib.ListN.{length, getD}
+use lib.ListN.{getD}
 use Rattle.chip.specs.Netlist.{Netlist}
 use Rattle.chip.specs.Inner.Tables.{tabled}
 use Rattle.chip.specs.Search.{digit}
 use Rattle.chip.specs.Pads.{padBuffer}
-use Rattle.bridge.specs.Chunk.{Chunk}
-use Rattle.cells.specs.Cells.{Good}
 use Rattle.known.specs.Known.{Known}
 use Rattle.known.specs.Setting.{Setting, Shows, Advance, Long}
-use Rattle.alone.specs.Alone.{Between, Variables}
+use Rattle.alone.specs.Alone.{Between}
 use Rattle.buffers.specs.Buffers.{PadFault}
 use Rattle.places.specs.Places.{faultOf}
-use Rattle.stages.specs.Stage.{Stage}
-
--- ---- the words
-
--- the words of the variables and cells are those of some chunks, the others do not change
-pub record Store (c : ℕ) (goods vals : List ℕ) : Type 0 where
-  pub words : length goods ≡ 16672
-  pub runs : length vals ≡ 16672
-  pub zeros : (k : ℕ) → k < 16 → getD goods (16 * 1040 + k) 0 ≡ 0
-  pub ones : (k : ℕ) → k < 16 → getD goods (16 * 1041 + k) 0 ≡ 2 ^ 64 - 1
-  pub beyond : (x : ℕ) → 16 * (16 + c) ≤ x → getD vals x 0 ≡ getD goods x 0
-
--- the good words of the chunks from q on, for the outputs of u, stand in both tables
-pub record GoodWords (c w q u : ℕ) (kinds counts firsts src order reach goods vals : List ℕ) : Type 0 where
-  pub words : length goods ≡ 16672
-  pub chunk : Chunk w q goods
-  pub good : Good c u kinds counts firsts src order reach goods
-  pub same : vals ≡ goods
+use Rattle.stages.specs.Stage.{Stage, Variables}
 
 -- ---- the faults
 
@@ -48,7 +29,7 @@ pub record AtHome (i c : ℕ) (N : Netlist) (counts firsts order : List ℕ) (f 
 
 -- fault f is a run of its own, or looked at without one: that of an input, of a pad buffer or of an output's pin
 abbrev pub Alone : ℕ → ℕ → ℕ → ℕ → List ℕ → List ℕ → ℕ → Type 0
-Alone i c o n firsts sources f = (f < 2 * i) ⊎ (PadFault c i c firsts sources f ⊎ Between (2 * (i + c + n - o)) (2 * (i + c + n)) f)
+Alone i c o n firsts sources f = (f < 2 * i) ⊎ (PadFault i c firsts sources f ⊎ Between (2 * (i + c + n - o)) (2 * (i + c + n)) f)
 
 -- one fault goes on in the chunks from q on
 pub record ChunkStep (i c o n w q u : ℕ) (kinds counts firsts nets order reach src outs list input goods : List ℕ) (f left best pat left′ best′ pat′ : ℕ) : Type 0 where

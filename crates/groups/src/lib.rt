@@ -1,55 +1,20 @@
 // The outputs in groups with the same blocks behind them, each group over the chunks of its patterns.
 ghost use mathlib.Core.Path.{_≡_};
-ghost use Prim.Native.Nat.{ℕ, _+_, _*_, _≤_, _<_};
-ghost use lib.ListN.{getD};
+ghost use Prim.Native.Nat.{ℕ, _+_, _*_, _<_};
 ghost use mathlib.Core.Bool.{Bool};
 ghost use mathlib.Core.List.{List};
 ghost use Rattle.chip.specs.Inner.Tables.{tabled};
-ghost use Rattle.events.specs.Events.{Chip};
 ghost use Rattle.events.specs.Lent.{kindsOf, countsOf, inputsOf, firstsOf, orderOf, headsOf, readersOf, sourcesOf, netsOf, branchesOf, slotsOf, outsOf, variablesOf};
 ghost use Rattle.known.specs.Setting.{GoodRun, Long, Went};
 ghost use Rattle.stages.specs.Stage.{Watch, OutsOnly, Stage};
-ghost use Rattle.groups.specs.Chunks.{Store, GoodWords, Alone, ChunkStep, ChunkTried, GroupTried};
+ghost use Rattle.patterns.specs.Words.{Store};
+ghost use Rattle.groups.specs.Chunks.{Alone, ChunkStep, ChunkTried, GroupTried};
 use chip::CELLS;
 use chip::FAULTS;
 use chip::PINS;
-use events::COUNT;
-use events::FIRST;
-use events::KIND;
-use events::ORDER;
 use events::SLOT;
 use events::Trial;
 use rows::WORDS;
-
-// The good words, in both tables.
-fn good_words<'a>(
-    trial: Trial,
-    bytes: [&'a [u8]; 3],
-    tables: [&'a [u16]; 5],
-    src: &[u16],
-    reach: &[u64; CELLS],
-    goods: &mut [u64; WORDS],
-    vals: &mut [u64; WORDS],
-)
-    requires { ⌜ ((heads readers : List ℕ) × Chip (trial .cells) (kindsOf bytes) (countsOf bytes) (firstsOf tables) (now src) (orderOf tables) (now reach) heads readers) ⌝ }
-    requires { ⌜ (trial .width ≤ 16) × (trial .chunk < 4096) × (trial .cells ≤ 1024) × ((t : ℕ) → t < (trial .cells) → getD (orderOf tables) t 0 < trial .cells) × Store (trial .cells) (now goods) (now vals) ⌝ }
-    ensures { λ _. ⌜ GoodWords (trial .cells) (trial .width) (trial .chunk) (trial .at) (kindsOf (bytes .entry)) (countsOf (bytes .entry)) (firstsOf (tables .entry)) (now (src .entry)) (orderOf (tables .entry)) (now (reach .entry)) (now (goods .exit)) (now (vals .exit)) ⌝ }
-{
-    let c = trial.cells;
-    patterns::set_variables(trial.width, trial.chunk, goods);
-    events::good_cells(
-        c,
-        trial.at,
-        bytes[KIND],
-        bytes[COUNT],
-        tables[FIRST],
-        src,
-        tables[ORDER],
-        reach,
-        goods,
-    );
-    events::copy_words(16 * (16 + c), goods, vals);
-}
 
 // Tries the faults that are runs of their own, or looked at without one.
 fn try_alone<'a, 'b, 'c>(
@@ -122,7 +87,7 @@ fn try_chunk<'a, 'b, 'c>(
     ensures { λ _. ⌜ Watch (trial .inputs) (trial .cells) (tabled (trial .inputs) (trial .cells) (trial .outputs) (kindsOf (bytes .entry)) (countsOf (bytes .entry)) (netsOf (pins .entry))) (countsOf (bytes .entry)) (firstsOf (tables .entry)) (orderOf (tables .entry)) (now (left .exit)) (now (groups .exit)) ⌝ }
     ensures { λ _. ⌜ ChunkTried (trial .inputs) (trial .cells) (trial .outputs) (trial .pins) (trial .width) (trial .chunk) (trial .at) (kindsOf (bytes .entry)) (countsOf (bytes .entry)) (firstsOf (tables .entry)) (netsOf (pins .entry)) (orderOf (tables .entry)) (branchesOf (pins .entry)) (sourcesOf (tables .entry)) (now (reach .entry)) (headsOf (tables .entry)) (readersOf (tables .entry)) (slotsOf (group .entry)) (outsOf (group .entry)) (variablesOf (group .entry)) (inputsOf (bytes .entry)) (now (left .entry)) (now (best .entry)) (now (pat .entry)) (now (left .exit)) (now (best .exit)) (now (pat .exit)) ⌝ }
 {
-    good_words(trial, bytes, tables, group[SLOT], reach, goods, vals);
+    patterns::good_words(trial, bytes, tables, group[SLOT], reach, goods, vals);
     try_alone(
         trial,
         bytes,

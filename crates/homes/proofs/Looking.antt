@@ -17,10 +17,10 @@ use Rattle.homes.specs.Homes.{homeWord, numberOf, laneAt, Missed, Hit, L
 
 -- ---- the numbers of a home's faults
 
-number-low : (e net pin : ℕ) → e < 2 → numberOf e net pin ≡ 2 * net + e
+pub number-low : (e net pin : ℕ) → e < 2 → numberOf e net pin ≡ 2 * net + e
 number-low e net pin l = rw (lt-ltb e 2 l) refl
 
-number-high : (e net pin : ℕ) → 2 ≤ e → numberOf e net pin ≡ 2 * pin + (e - 2)
+pub number-high : (e net pin : ℕ) → 2 ≤ e → numberOf e net pin ≡ 2 * pin + (e - 2)
 number-high e net pin l = rw (le-ltb e 2 l) refl
 
 pub number-few : (e net pin n : ℕ) → net < pin → pin + n ≤ 5184 → e < 2 * n + 2 → numberOf e net pin < 10368

@@ -7,6 +7,7 @@ ghost use lib.ListN.{length, getD, set};
 ghost use lib.Bits.{bitAnd, bitOr, bitXor};
 ghost use Rattle.rows.specs.Rows.{Filled};
 ghost use Rattle.homes.specs.Homes.{pinWord, homeWord, numberOf, Home, laneAt, FirstLane, NextBit, SeenAt, Looked, LookedHome, HomeLanes};
+use chip::FAULTS;
 use chip::wide;
 use rows::ROW;
 
@@ -91,7 +92,7 @@ fn home_diff(
 }
 
 // The number of fault e.
-fn number(e: usize, net: usize, pin: usize) -> usize
+pub fn number(e: usize, net: usize, pin: usize) -> usize
     requires { ⌜ (e < 18) × (net < 10000) × (pin < 10000) ⌝ }
     ensures { λ r. ⌜ r ≡ numberOf e net pin ⌝ }
 {
@@ -148,8 +149,15 @@ pub fn seen_at(u: u64, outs: &[u16], goods: &[u64], vals: &[u64]) -> u64
 }
 
 // Enters a hit of fault f.
-fn enter(f: usize, z: usize, m: usize, left: &mut [u64], best: &mut [u8], pat: &mut [u32])
-    requires { ⌜ (z < 64) × (m < 4294967296) × (f < 20000) × (f < length (now left)) × (f < length (now best)) × (f < length (now pat)) ⌝ }
+fn enter(
+    f: usize,
+    z: usize,
+    m: usize,
+    left: &mut [u64; FAULTS],
+    best: &mut [u8; FAULTS],
+    pat: &mut [u32; FAULTS],
+)
+    requires { ⌜ (z < 64) × (m < 4294967296) × (f < 10368) × (f < length (now left)) × (f < length (now best)) × (f < length (now pat)) ⌝ }
     ensures { λ _. ⌜ now (left .exit) ≡ set (now (left .entry)) f (bitAnd (getD (now (left .entry)) f 0) (2 ^ z - 1)) ⌝ }
     ensures { λ _. ⌜ now (best .exit) ≡ set (now (best .entry)) f z ⌝ }
     ensures { λ _. ⌜ now (pat .exit) ≡ set (now (pat .entry)) f m ⌝ }
@@ -169,12 +177,12 @@ pub fn look(
     ends: &[u16],
     goods: &[u64],
     vals: &[u64],
-    left: &mut [u64],
-    best: &mut [u8],
-    pat: &mut [u32],
+    left: &mut [u64; FAULTS],
+    best: &mut [u8; FAULTS],
+    pat: &mut [u32; FAULTS],
 )
     requires { ⌜ (length (now t) ≡ 16) × (length (now outs) ≡ 64) × (q < 4096) × ((z : ℕ) → z < 64 → (16 * getD (now outs) z 0 + 16 ≤ length (now goods)) × (16 * getD (now ends) z 0 + 16 ≤ length (now vals))) × (length (now ends) ≡ 64) ⌝ }
-    requires { ⌜ (f < 20000) × (f < length (now left)) × (f < length (now best)) × (f < length (now pat)) ⌝ }
+    requires { ⌜ (f < 10368) × (f < length (now left)) × (f < length (now best)) × (f < length (now pat)) ⌝ }
     ensures { λ _. ⌜ Looked f q u (λ z. laneAt (now (t .entry)) (getD (now (outs .entry)) z 0) (getD (now (ends .entry)) z 0) (now (goods .entry)) (now (vals .entry))) (now (left .entry)) (now (best .entry)) (now (pat .entry)) (now (left .exit)) (now (best .exit)) (now (pat .exit)) ⌝ }
 {
     let mut at = 0;
@@ -200,9 +208,9 @@ pub fn look_home(
     outs: &[u16],
     goods: &[u64],
     vals: &[u64],
-    left: &mut [u64],
-    best: &mut [u8],
-    pat: &mut [u32],
+    left: &mut [u64; FAULTS],
+    best: &mut [u8; FAULTS],
+    pat: &mut [u32; FAULTS],
 )
     requires { ⌜ (q < 4096) × (length (now outs) ≡ 64) × ((z : ℕ) → z < 64 → (16 * getD (now outs) z 0 + 16 ≤ length (now goods)) × (16 * getD (now outs) z 0 + 16 ≤ length (now vals))) ⌝ }
     requires { ⌜ (home .net < home .pin) × (home .pin + home .count ≤ 5184) × (home .number < 1024) × (16 * (16 + home .number) + 16 ≤ length (now goods)) × Home (home .kind) (now src) (length (now goods)) (home .first) (home .count) ⌝ }

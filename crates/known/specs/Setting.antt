@@ -13,7 +13,7 @@ use Rattle.chip.specs.Search.{digit, width, Tried}
 use Rattle.flip.specs.Bed.{Bed}
 use Rattle.bridge.specs.Chunk.{Chunk}
 use Rattle.faults.specs.Numbers.{faultNumber}
-use Rattle.cells.specs.Cells.{Good}
+use Rattle.events.specs.Events.{Good}
 use Rattle.known.specs.Known.{Known}
 
 -- the tables of a prepared chip, with the slots of a group of outputs, and the good words of the chunks

@@ -6,11 +6,11 @@ use mathlib.Core.Bool.{Bool, true, false, cond, _&&_, false≢true}
 use mathlib.Core.List.{List}
 use native.Mathlib.Omega.{arith}
 use native.Mathlib.Decide.{decLt, ℕ-discrete}
-use borrow.Author.Tests.{lt-ltb, le-ltb, leb-true, eqb-true}
+use borrow.Author.Tests.{leb-true, eqb-true}
 use lib.Dec.{leb, eqb}
 use lib.Seq.{getD-set-same, getD-set-other}
 use lib.ListN.{length, getD, set, length-set}
-use lib.Bits.{bitAnd, bitOr, and-zero-l}
+use lib.Bits.{bitAnd, and-zero-l}
 use Rattle.chip.specs.Netlist.{takes}
 use Rattle.chip.specs.Inner.Tables.{tabled}
 use Rattle.chip.specs.Pads.{padBuffer}
@@ -18,17 +18,17 @@ use Rattle.chip.specs.Class.{blocks}
 use Rattle.chip.specs.Faults.{stuck}
 use Rattle.chip.specs.Search.{digit, Tried}
 use Rattle.chip.proofs.Bools.{both-true}
-use Rattle.events.specs.Events.{Chip}
+use Rattle.events.specs.Events.{Chip, Good}
 use Rattle.homes.specs.Homes.{numberOf, homeLane, Home}
-use Rattle.cells.specs.Cells.{Good, HomeTried}
+use Rattle.homes.proofs.Looking.{number-low, number-high}
+use Rattle.cells.specs.Cells.{HomeTried}
 use Rattle.bridge.specs.Chunk.{faultAt}
 use Rattle.bridge.proofs.Bridge.{home-asked, fault-number}
 use Rattle.known.specs.Setting.{Setting, Shows, Advance, GoodRun, Long}
 use Rattle.known.proofs.Advance.{advance-none, advance-looked}
-use Rattle.order.specs.Order.{Ordered}
-use Rattle.readers.specs.Readers.{Wires}
-use Rattle.rows.proofs.Bits.{split, meet, bit-l, bit-r, some-bit}
-use Rattle.places.specs.Places.{Covers, Apart, faultOf, PlacesDone, PlaceDone}
+use Rattle.rows.proofs.Bits.{split, meet, some-bit}
+use Rattle.stages.specs.Stage.{Apart, Covers}
+use Rattle.places.specs.Places.{faultOf, PlacesDone, PlaceDone}
 
 -- pattern m shows fault e of cell j, with its pins from pin a on, at output z
 abbrev ShownAt : ℕ → ℕ → ℕ → List ℕ → List ℕ → List ℕ → (ℕ → ℕ) → (ℕ → ℕ → Bool) → ℕ → ℕ → ℕ → ℕ → ℕ → Type 0
@@ -62,33 +62,6 @@ module _ (i c o : ℕ) (kinds counts nets firsts order cone reach src outs : Lis
       (λ z x zl d xl f t. false≢true (sym f ∙ asked e z x b zl d xl .0 t))
       (λ z x zl d xl f. asked e z x b zl d xl .1 f)
       (T .looked .entry e b)
-
--- ---- the outputs left to a home's faults
-
-pub number-net : (e net pin : ℕ) → e < 2 → numberOf e net pin ≡ 2 * net + e
-number-net e net pin l = ap (λ r. cond r (2 * net + e) (2 * pin + (e - 2))) (lt-ltb e 2 l)
-
-pub number-pin : (e net pin : ℕ) → 2 ≤ e → numberOf e net pin ≡ 2 * pin + (e - 2)
-number-pin e net pin l = ap (λ r. cond r (2 * net + e) (2 * pin + (e - 2))) (le-ltb e 2 l)
-
-pub cover-none : (net pin : ℕ) (left : List ℕ) (a b : ℕ) → a ≡ getD left (2 * net) 0 → b ≡ getD left (2 * net + 1) 0 → Covers net pin 0 left (bitOr a b)
-cover-none net pin left a b ea eb = record {
-  all = λ e z l d. elim (ℕ-discrete e 0) [
-    | yes h ↦ bit-l a b z (ap (digit z) (ea ∙ ap (λ x. getD left x 0) (omega (arith, number-net e net pin (omega arith)))) ∙ d)
-    | no h ↦ bit-r a b z (ap (digit z) (eb ∙ ap (λ x. getD left x 0) (omega (arith, number-net e net pin (omega arith)))) ∙ d)
-  ];
-}
-
-pub cover-more : (net pin k : ℕ) (left : List ℕ) (w a b : ℕ) → Covers net pin k left w → a ≡ getD left (2 * (pin + k)) 0 → b ≡ getD left (2 * (pin + k) + 1) 0 → Covers net pin (k + 1) left (bitOr (bitOr w a) b)
-cover-more net pin k left w a b C ea eb = record {
-  all = λ e z l d. elim (decLt e (2 * k + 2)) [
-    | yes h ↦ bit-l (bitOr w a) b z (bit-l w a z (C .all e z h d))
-    | no h ↦ elim (ℕ-discrete e (2 * k + 2)) [
-      | yes s ↦ bit-l (bitOr w a) b z (bit-r w a z (ap (digit z) (ea ∙ ap (λ x. getD left x 0) (omega (arith, number-pin e net pin (omega arith)))) ∙ d))
-      | no s ↦ bit-r (bitOr w a) b z (ap (digit z) (eb ∙ ap (λ x. getD left x 0) (omega (arith, number-pin e net pin (omega arith)))) ∙ d)
-    ]
-  ];
-}
 
 -- ---- one place
 
@@ -141,13 +114,13 @@ pub faults-apart : (i c : ℕ) (counts firsts src order : List ℕ) → Apart i 
     → (s t e f : ℕ) → s < c → t < c → s ≢ t → e < 2 * getD counts (getD order s 0) 0 + 2 → f < 2 * getD counts (getD order t 0) 0 + 2 → faultOf i c firsts order s e ≢ faultOf i c firsts order t f
 faults-apart i c counts firsts src order A once s t e f sc tc d el fl q = elim (decLt e 2) [
   | yes a ↦ elim (decLt f 2) [
-    | yes b ↦ once s t sc tc d (omega (arith, number-net e (i + getD order s 0) (i + c + getD firsts (getD order s 0) 0) a, number-net f (i + getD order t 0) (i + c + getD firsts (getD order t 0) 0) b, q))
-    | no b ↦ omega (arith, number-net e (i + getD order s 0) (i + c + getD firsts (getD order s 0) 0) a, number-pin f (i + getD order t 0) (i + c + getD firsts (getD order t 0) 0) (omega arith), q, A .cell s sc)
+    | yes b ↦ once s t sc tc d (omega (arith, number-low e (i + getD order s 0) (i + c + getD firsts (getD order s 0) 0) a, number-low f (i + getD order t 0) (i + c + getD firsts (getD order t 0) 0) b, q))
+    | no b ↦ omega (arith, number-low e (i + getD order s 0) (i + c + getD firsts (getD order s 0) 0) a, number-high f (i + getD order t 0) (i + c + getD firsts (getD order t 0) 0) (omega arith), q, A .cell s sc)
   ]
   | no a ↦ elim (decLt f 2) [
-    | yes b ↦ omega (arith, number-pin e (i + getD order s 0) (i + c + getD firsts (getD order s 0) 0) (omega arith), number-net f (i + getD order t 0) (i + c + getD firsts (getD order t 0) 0) b, q, A .cell t tc)
+    | yes b ↦ omega (arith, number-high e (i + getD order s 0) (i + c + getD firsts (getD order s 0) 0) (omega arith), number-low f (i + getD order t 0) (i + c + getD firsts (getD order t 0) 0) b, q, A .cell t tc)
     | no b ↦ A .pins s t ((e - 2) / 2) ((f - 2) / 2) sc tc d (omega arith) (omega arith)
-        (omega (arith, number-pin e (i + getD order s 0) (i + c + getD firsts (getD order s 0) 0) (omega arith), number-pin f (i + getD order t 0) (i + c + getD firsts (getD order t 0) 0) (omega arith), q))
+        (omega (arith, number-high e (i + getD order s 0) (i + c + getD firsts (getD order s 0) 0) (omega arith), number-high f (i + getD order t 0) (i + c + getD firsts (getD order t 0) 0) (omega arith), q))
   ]
 ]
 
@@ -211,9 +184,3 @@ pub home-of : (c p : ℕ) (kinds counts firsts src order reach heads readers : L
     → Home (getD kinds (getD order p 0) 0) src 16672 (getD firsts (getD order p 0) 0) (getD counts (getD order p 0) 0)
 home-of c p kinds counts firsts src order reach heads readers H l =
     record { taken = H .taken p l; known = H .known p l; few = few-taken (getD kinds (getD order p 0) 0) (getD counts (getD order p 0) 0) (H .taken p l); pins = H .pins p l; room = omega arith }
-
--- ---- from a prepared chip
-
-pub apart-of : (i c o n : ℕ) (kinds counts branches nets firsts src order block : List ℕ) → Wires i c n counts firsts branches nets order block → Ordered (tabled i c o kinds counts nets) order → length src ≡ 4096
-    → Apart i c counts firsts src order
-apart-of i c o n kinds counts branches nets firsts src order block W O l = record { few-inputs = W .heads .few-inputs; pins-long = l; cell = O .cell; pins = W .apart }

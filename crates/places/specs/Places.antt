@@ -1,27 +1,15 @@
 -- The faults of all cells but pad buffers in the chunks from q on, at the outputs of a group g.
-use Prim.Native.Nat.{ℕ, _+_, _*_, _≤_, _<_}
+use Prim.Native.Nat.{ℕ, _+_, _*_, _<_}
 use mathlib.Core.Logic.{_≢_}
 use mathlib.Core.Path.{_≡_}
-use mathlib.Core.Bool.{Bool, true, false}
+use mathlib.Core.Bool.{Bool, false}
 use mathlib.Core.List.{List}
 use lib.ListN.{length, getD}
 use Rattle.chip.specs.Inner.Tables.{tabled}
 use Rattle.chip.specs.Pads.{padBuffer}
-use Rattle.chip.specs.Search.{digit}
 use Rattle.homes.specs.Homes.{numberOf}
+use Rattle.stages.specs.Stage.{Covers}
 use Rattle.known.specs.Setting.{Setting, Shows, Advance, Long}
-
--- a word that has all outputs left to the faults of a home
-pub record Covers (net pin n : ℕ) (left : List ℕ) (word : ℕ) : Type 0 where
-  pub all : (e z : ℕ) → e < 2 * n + 2 → digit z (getD left (numberOf e net pin) 0) ≡ true → digit z word ≡ true
-
--- the cells of an order have different pins; the sites of place t are its net, and its pins from a site on
-pub record Apart (i c : ℕ) (counts firsts src order : List ℕ) : Type 0 where
-  pub few-inputs : i ≤ 64
-  pub pins-long : length src ≡ 4096
-  pub cell : (t : ℕ) → t < c → getD order t 0 < c
-  pub pins : (s t x y : ℕ) → s < c → t < c → s ≢ t → x < getD counts (getD order s 0) 0 → y < getD counts (getD order t 0) 0
-      → getD firsts (getD order s 0) 0 + x ≢ getD firsts (getD order t 0) 0 + y
 
 abbrev pub faultOf : ℕ → ℕ → List ℕ → List ℕ → ℕ → ℕ → ℕ
 faultOf i c firsts order t e = numberOf e (i + getD order t 0) (i + c + getD firsts (getD order t 0) 0)

@@ -3,11 +3,12 @@
 ghost use mathlib.Core.Path.{_≡_};
 ghost use Prim.Native.Nat.{ℕ, _+_, _*_, _≤_, _<_};
 ghost use lib.ListN.{length, getD};
-ghost use Rattle.events.specs.Events.{Chip};
+ghost use Rattle.events.specs.Events.{Chip, Good};
 ghost use Rattle.events.specs.Lent.{kindsOf, countsOf, firstsOf, orderOf, headsOf, readersOf, slotsOf, outsOf};
-ghost use Rattle.cells.specs.Cells.{Good, HomeTried};
+ghost use Rattle.cells.specs.Cells.{HomeTried};
 ghost use Rattle.known.specs.Setting.{GoodRun, Long};
-ghost use Rattle.places.specs.Places.{Covers, Apart, PlaceDone, PlacesDone};
+ghost use Rattle.stages.specs.Stage.{Apart, Covers};
+ghost use Rattle.places.specs.Places.{PlaceDone, PlacesDone};
 use chip::CELLS;
 use chip::FAULTS;
 use chip::wide;
@@ -21,19 +22,7 @@ use events::Trial;
 use homes::Cell;
 use rows::WORDS;
 
-// The outputs left to the faults of a cell: its net is a site, and its n pins those from another on.
-pub fn left_at(net: usize, pin: usize, n: usize, left: &[u64]) -> u64
-    requires { ⌜ (net < pin) × (pin + n ≤ 5184) × (length (now left) ≡ 10368) ⌝ }
-    ensures { λ r. ⌜ Covers net pin n (now (left .entry)) r ⌝ }
-{
-    let mut x = left[2 * net] | left[2 * net + 1];
-    for k in 0..n {
-        x = x | left[2 * (pin + k)] | left[2 * (pin + k) + 1];
-    }
-    x
-}
-
-// The same of the cell at place p.
+// The outputs left to the faults of the cell at place p.
 fn left_of(
     i: usize,
     c: usize,
@@ -50,7 +39,7 @@ fn left_of(
     ensures { λ r. ⌜ Covers (i + getD (now (order .entry)) p 0) (i + c + getD (now (firsts .entry)) (getD (now (order .entry)) p 0) 0) (getD (now (counts .entry)) (getD (now (order .entry)) p 0) 0) (now (left .entry)) r ⌝ }
 {
     let j = wide(order[p]);
-    left_at(i + j, i + c + wide(firsts[j]), wide8(counts[j]), left)
+    stages::left_at(i + j, i + c + wide(firsts[j]), wide8(counts[j]), left)
 }
 
 // Tries the open faults of the cell at place p.

@@ -1,5 +1,5 @@
 -- The tables of words before the first group, what is looked for, and the answers from what was found.
-use Prim.Native.Nat.{ℕ, _+_, _-_, _*_, _/_, _^_, _≤_, _<_}
+use Prim.Native.Nat.{ℕ, _+_, _-_, _*_, _/_, _≤_, _<_}
 use mathlib.Core.Path.{_≡_, sym, ap, _∙_, subst}
 use mathlib.Core.Logic.{_≢_}
 use mathlib.Core.Bool.{true, false, cond, false≢true}
@@ -17,17 +17,16 @@ use Rattle.chip.specs.Class.{Reach, here, on}
 use Rattle.chip.specs.Search.{digit, SiteReaches}
 use Rattle.chip.specs.declared.Site.the-variants.{Net, Pin}
 use Rattle.words.proofs.Bits.{digit-zero}
-use Rattle.rows.specs.Rows.{Filled}
 use Rattle.flip.proofs.Flips.{no-out}
 use Rattle.slots.specs.Slots.{relOf}
 use Rattle.walk.specs.Walk.{widthOf}
 use Rattle.known.specs.Setting.{Shows}
 use Rattle.outputs.specs.Groups.{Sofar}
 use Rattle.benches.specs.Benches.{Fitted}
-use Rattle.groups.specs.Chunks.{Store}
 use Rattle.outputs.specs.Sites.{SiteMasks, Widths, WideWord, Started, sizeOf}
 use Rattle.outputs.proofs.Wide.{not-wide}
-use Rattle.verdicts.specs.Verdicts.{Sought, AllSofar, Judged}
+use Rattle.findings.specs.Answered.{Judged}
+use Rattle.verdicts.specs.Verdicts.{Sought, AllSofar}
 
 -- ---- readers are the first entries of a table that has room for more
 
@@ -44,27 +43,6 @@ pub part-fitted : {i c o n : ℕ} {kinds counts firsts nets order branches block
     → Fitted i c o n kinds counts firsts nets order branches block cone reach heads readers input → m ≤ 4096 → length readers ≡ length (take m (replicate {A = ℕ} 4096 0))
     → Fitted i c o n kinds counts firsts nets order branches block cone reach heads (take m (readers ++ rest)) input
 part-fitted {readers = readers} m rest F h e = rw (take-at readers rest m (part-count m readers h e)) F
-
--- ---- words
-
--- two tables of zeros with the ones in their slot
-pub store-blank : (c : ℕ) (a goods vals : List ℕ) → length a ≡ 16672 → ((x : ℕ) → getD a x 0 ≡ 0) → Filled 16656 16 (λ k. 2 ^ 64 - 1) a goods → Filled 16656 16 (λ k. 2 ^ 64 - 1) a vals → Store c goods vals
-store-blank c a goods vals l z F G =
-    record {
-      words = F .long ∙ l;
-      runs = G .long ∙ l;
-      zeros = λ k h. F .below (16 * 1040 + k) (omega arith) ∙ z (16 * 1040 + k);
-      ones = λ k h. let e : 16 * 1041 + k ≡ 16656 + k = omega arith in ap (λ x. getD goods x 0) e ∙ F .done k h;
-      beyond = λ x h. elim (decLt x 16656) [
-        | yes b ↦ G .below x b ∙ sym (F .below x b)
-        | no g ↦ elim (decLt x 16672) [
-          | yes b ↦
-              let e : 16656 + (x - 16656) ≡ x = omega arith in
-              ap (λ y. getD vals y 0) (sym e) ∙ G .done (x - 16656) (omega arith) ∙ sym (F .done (x - 16656) (omega arith)) ∙ ap (λ y. getD goods y 0) e
-          | no f ↦ G .above x (omega arith) ∙ sym (F .above x (omega arith))
-        ]
-      ];
-    }
 
 -- ---- what is looked for
 

@@ -1,17 +1,16 @@
 -- The answers for all faults of a chip at once, fault f = 2 * s + v for site s stuck at v: the nets are the first sites, then come the pins.
-use Prim.Native.Nat.{ℕ, _+_, _-_, _*_, _/_, _≤_, _<_}
+use Prim.Native.Nat.{ℕ, _+_, _-_, _*_, _≤_, _<_}
 use mathlib.Core.Path.{_≡_}
 use mathlib.Core.Bool.{true}
 use mathlib.Core.List.{List}
-use lib.ListN.{length, getD}
-use lib.Bits.{bitAnd}
+use lib.ListN.{getD}
 use Rattle.chip.specs.Inner.Tables.{tabled}
 use Rattle.chip.specs.Class.{Lowest}
 use Rattle.chip.specs.Search.{digit}
 use Rattle.slots.specs.Slots.{relOf}
 use Rattle.known.specs.Setting.{Shows, Long}
 use Rattle.stages.specs.Stage.{OutsOnly}
-use Rattle.outputs.specs.Sites.{SiteMasks, Widths, WideWord, sizeOf}
+use Rattle.outputs.specs.Sites.{sizeOf}
 use Rattle.outputs.specs.Groups.{Sofar}
 use Rattle.groups.specs.Chunks.{Ended}
 use Rattle.walk.specs.Walk.{widthOf}
@@ -33,14 +32,3 @@ pub record AllSofar (i c o n b todo : ℕ) (kinds counts nets reached whole left
   pub long : Long left best pat
   pub fault : (low : ℕ → ℕ) → Lowest (tabled i c o kinds counts nets) low → (f : ℕ) → f < 2 * (i + c + n)
       → Sofar (Shows i c o kinds counts nets low (relOf reached) f) (sizeOf b reached) todo (getD whole f 0) (getD left f 0) (getD best f 0) (getD pat f 0)
-
--- the answer for fault f, if none of its site's outputs is wide: its lowest output that a pattern shows it at, or 64, and the first pattern there
-pub record Judged (i c o n b f wides : ℕ) (kinds counts nets reached sites widths best pat : List ℕ) : Type 0 where
-  pub a-fault : f < 2 * (i + c + n)
-  pub sites-are : SiteMasks (tabled i c o kinds counts nets) sites
-  pub widths-are : Widths o b reached widths
-  pub wides-are : WideWord o widths wides
-  pub long-best : length best ≡ 10368
-  pub long-pat : length pat ≡ 10368
-  pub found : (low : ℕ → ℕ) → Lowest (tabled i c o kinds counts nets) low → bitAnd (getD sites (f / 2) 0) wides ≡ 0
-      → (left : ℕ) × Sofar (Shows i c o kinds counts nets low (relOf reached) f) (sizeOf b reached) 0 (getD sites (f / 2) 0) left (getD best f 0) (getD pat f 0)

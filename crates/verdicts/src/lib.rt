@@ -9,13 +9,13 @@ ghost use Rattle.chip.specs.Class.{blocks};
 ghost use Rattle.levels.specs.Levels.{ReachMasks};
 ghost use Rattle.pads.specs.Sources.{SourceTable};
 ghost use Rattle.structure.specs.Inner.Shape.{Ready};
-ghost use Rattle.rows.specs.Rows.{Filled};
 ghost use Rattle.events.specs.Lent.{kindsOf, countsOf, inputsOf, firstsOf, orderOf, headsOf, readersOf, sourcesOf, netsOf, branchesOf, blocksOf};
 ghost use Rattle.known.specs.Setting.{Long};
 ghost use Rattle.stages.specs.Stage.{Watch, OutsOnly};
 ghost use Rattle.benches.specs.Benches.{Fitted, Group};
-ghost use Rattle.groups.specs.Chunks.{Store};
-ghost use Rattle.verdicts.specs.Verdicts.{Sought, LikeTried, AllSofar, Judged};
+ghost use Rattle.patterns.specs.Words.{Store};
+ghost use Rattle.findings.specs.Answered.{Judged};
+ghost use Rattle.verdicts.specs.Verdicts.{Sought, LikeTried, AllSofar};
 use chip::ALL_NETS;
 use chip::BLOCKS;
 use chip::CELLS;
@@ -51,16 +51,6 @@ struct Like {
     shape: Shape,
     output: usize,
     at: u64,
-}
-
-// The ones stand in their slot.
-fn put_ones(words: &mut [u64; WORDS])
-    requires { ⌜ length (now words) ≡ 16672 ⌝ }
-    ensures { λ _. ⌜ Filled 16656 16 (λ k. 2 ^ 64 - 1) (now (words .entry)) (now (words .exit)) ⌝ }
-{
-    for k in 0..16 {
-        words[16656 + k] = 0xffff_ffff_ffff_ffff;
-    }
 }
 
 // Tries the faults at outputs with the same blocks behind them.
@@ -154,8 +144,8 @@ fn try_outputs<'a, 'c>(
     let n = z.pins;
     let mut goods = [0u64; WORDS];
     let mut vals = [0u64; WORDS];
-    put_ones(&mut goods);
-    put_ones(&mut vals);
+    patterns::put_ones(&mut goods);
+    patterns::put_ones(&mut vals);
     let mut todo = outputs::left_all(2 * (i + c + n), left);
     let mut y = 0;
     while y < o {

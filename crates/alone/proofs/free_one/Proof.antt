@@ -26,7 +26,7 @@ restore-slot-requires : tie.Need-restore-slot-requires
 restore-slot-requires c κs = search needs
 
 returns : tie.Need-returns
-returns c = let a = c .before .before .before .before .before .before .before .before .before .before .args in var-put (a .x) (a .list .now) (a .input .now) (λ k j. getD (a .goods .now) (16 * k + j) 0) (a .k) _ _ _ (c .before .before .before .before .before .before .wide .ensures) (sym (c .before .before .before .before .wide8 .ensures) ∙ c .before .before .before .if1 .taken) (c .restore-slot .ensures)
+returns c = let a = c .before .before .before .before .before .before .before .before .before .args in var-put (a .x) (a .list .now) (a .input .now) (λ k j. getD (a .goods .now) (16 * k + j) 0) (a .k) _ _ _ (c .before .before .before .before .before .wide .ensures) (sym (c .before .before .before .wide8 .ensures) ∙ c .before .before .if1 .taken) (c .restore-slot .ensures)
 
 returns-2 : tie.Need-returns-2
 returns-2 c = let a = c .before .before .before .before .before .before .before .args in var-same (a .x) (a .list .now) (a .input .now) (λ k j. getD (a .goods .now) (16 * k + j) 0) (a .k) (c .before .before .before .wide .result) _ (c .before .before .before .wide .ensures) (λ y. c .if1 .left (c .before .wide8 .ensures ∙ y))

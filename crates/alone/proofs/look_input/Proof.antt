@@ -18,7 +18,7 @@ abbrev looked : tie.After-free-input → tie.After-look-all
 looked c = c .before .before .before .before
 
 abbrev freed : tie.After-restore → tie.After-free-input
-freed c = c .before .before .before .before .before
+freed c = c .before .before .before .before
 
 run-input-requires : tie.Need-run-input-requires
 run-input-requires c κs =
@@ -59,12 +59,9 @@ free-input-requires c κs =
 array-copy-out-restore : tie.Need-array-copy-out-restore
 array-copy-out-restore c = search needs
 
-slice-aggregate-restore : tie.Need-slice-aggregate-restore
-slice-aggregate-restore c = search needs
-
 restore-requires : tie.Need-restore-requires
 restore-requires c κs =
-    let f = c .before .before .before .before in
+    let f = c .before .before .before in
     let r = ran (looked f) in
     let s = start r in
     let C = s .pre .0 in
@@ -100,6 +97,5 @@ look-input-spec =
     array-copy-out-free-input-2
     free-input-requires
     array-copy-out-restore
-    slice-aggregate-restore
     restore-requires
     returns)

@@ -56,26 +56,26 @@ wide-requires-3 c κs = search needs
 
 mark-requires : tie.Need-mark-requires
 mark-requires c κs =
-    let b = read (c .before .before .before .before .before .before) in
+    let b = read (c .before .before .before .before .before) in
     let s = start b in
     let a = s .args in
     let e = ap (λ x. getD (a .heads .now) x 0) (b .wide .ensures) in
     let h = ap (λ x. getD (a .heads .now) (x + 1) 0) (b .wide .ensures) in (
-      omega (arith, e, h, c .before .before .before .before .wide2 .ensures, c .before .before .wide3 .ensures, s .pre .1 .0 .3),
-      omega (arith, h, c .before .before .wide3 .ensures, s .pre .1 .0 .4),
+      omega (arith, e, h, c .before .before .before .wide2 .ensures, c .before .wide3 .ensures, s .pre .1 .0 .3),
+      omega (arith, h, c .before .wide3 .ensures, s .pre .1 .0 .4),
       s .pre .0 .3,
       s .pre .1 .1,
     )
 
 returns : tie.Need-returns
 returns c =
-    let w = c .before .before .before .before .before .before .before in
+    let w = c .before .before .before .before .before .before in
     let b = read w in
     let s = start b in
     let a = s .args in (
       var-put _ _ _ (λ k j. getD (a .acc .now) j 0) _ _ _ _ (b .wide .ensures) (sym (w .before .before .before .before .wide8 .ensures) ∙ w .before .before .before .if1 .taken) (w .store .ensures),
-      var-marked _ _ _ _ _ _ _ _ (b .wide .result) _ _ _ _ (b .wide .ensures) (c .before .before .before .before .before .wide2 .ensures)
-          (c .before .before .before .wide3 .ensures) (s .pre .1 .0 .4) (c .mark .ensures),
+      var-marked _ _ _ _ _ _ _ _ (b .wide .result) _ _ _ _ (b .wide .ensures) (c .before .before .before .before .wide2 .ensures)
+          (c .before .before .wide3 .ensures) (s .pre .1 .0 .4) (c .mark .ensures),
     )
 
 returns-2 : tie.Need-returns-2

@@ -14,13 +14,13 @@ abbrev start : tie.After-copy-pins → tie.Start
 start c = c .before .before .before
 
 abbrev copied : tie.After-good-cells → tie.After-copy-pins
-copied c = c .before .before .before .before .before .before .before .before .before
+copied c = c .before .before .before .before .before .before .before .before
 
 abbrev worked : tie.After-look-all → tie.After-good-cells
 worked c = c .before .before .before .before .before .before .before .before .before
 
 abbrev looked : tie.After-copy-words → tie.After-look-all
-looked c = c .before .before .before
+looked c = c .before .before
 
 sub-copy-pins : tie.Need-sub-copy-pins
 sub-copy-pins c = search needs
@@ -45,7 +45,7 @@ array-copy-out-good-cells-4 c = search needs
 
 good-cells-requires : tie.Need-good-cells-requires
 good-cells-requires c κs =
-    let s = start (c .before .before .before .before .before .before .before .before) in
+    let s = start (c .before .before .before .before .before .before .before) in
     (s .pre .0, ap length (s .pre .1 .1 .1 .0) ∙ s .pre .1 .1 .0 .3)
 
 array-copy-out-look-all : tie.Need-array-copy-out-look-all
@@ -75,10 +75,10 @@ look-all-requires c κs =
 
 copy-words-requires : tie.Need-copy-words-requires
 copy-words-requires c κs =
-    let g = worked (c .before .before) in
+    let g = worked (c .before) in
     let s = start (copied g) in
     let W = g .good-cells .ensures in
-    (omega (arith, s .pre .1 .1 .0 .3), omega (arith, W .long, ap length (s .pre .1 .1 .1 .0), s .pre .1 .1 .0 .3))
+    (omega arith, s .pre .1 .1 .0 .3, W .long ∙ ap length (s .pre .1 .1 .1 .0) ∙ s .pre .1 .1 .0 .3)
 
 returns : tie.Need-returns
 returns c =

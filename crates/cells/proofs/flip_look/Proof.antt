@@ -38,13 +38,10 @@ look-seen-requires c κs =
 array-copy-out-restore : tie.Need-array-copy-out-restore
 array-copy-out-restore c = search needs
 
-slice-aggregate-restore : tie.Need-slice-aggregate-restore
-slice-aggregate-restore c = search needs
-
 -- a rewrite does not see through a named step, so the steps to the run are written out
 restore-requires : tie.Need-restore-requires
 restore-requires c κs =
-    let r = c .before .before .before .before .before .before .before .before .before in
+    let r = c .before .before .before .before .before .before .before .before in
     let s = start r in
     let f = r .flip-run .ensures in
     let C = s .pre .0 in
@@ -55,7 +52,7 @@ restore-requires c κs =
 
 returns : tie.Need-returns
 returns c =
-    let z = c .before .before .before .before .before in
+    let z = c .before .before .before .before in
     let r = z .before .before .before .before .before in
     let s = start r in
     let f = r .flip-run .ensures in
@@ -79,6 +76,5 @@ flip-look-spec =
     flip-run-requires
     look-seen-requires
     array-copy-out-restore
-    slice-aggregate-restore
     restore-requires
     returns)

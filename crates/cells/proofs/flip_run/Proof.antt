@@ -17,7 +17,7 @@ abbrev flipped : tie.After-put-bit → tie.After-flip
 flipped c = c .before .before
 
 abbrev noted : tie.After-mark-readers → tie.After-put-bit
-noted c = c .before .before .before .before .before
+noted c = c .before .before .before .before
 
 abbrev marked : tie.After-run → tie.After-mark-readers
 marked c = c .before .before .before .before
@@ -53,7 +53,7 @@ array-copy-out-mark-readers-2 c = search needs
 
 mark-readers-requires : tie.Need-mark-readers-requires
 mark-readers-requires c κs =
-    let w = read (flipped (c .before .before .before .before)) in
+    let w = read (flipped (c .before .before .before)) in
     let s = start w in
     let p = s .args .p in
     let C = s .pre .0 in

@@ -44,12 +44,8 @@ mark-requires : tie.Need-mark-requires
 mark-requires c κs = search needs
 
 -- src/lib.rt:13:1
-same-length : tie.Need-same-length
-same-length c = search needs
-
--- src/lib.rt:13:1
 returns : tie.Need-returns
-returns c = rw (c .before .before .before .before .before .before .wide .ensures, c .before .before .before .before .wide2 .ensures) at (c .before .before .mark .ensures)
+returns c = rw (c .before .before .before .before .wide .ensures, c .before .before .wide2 .ensures) at (c .mark .ensures)
 
 pub mark-readers-spec : {M : Type 1} → statement M
 mark-readers-spec =
@@ -65,5 +61,4 @@ mark-readers-spec =
     shared-slice-read-wide-2
     wide-requires-2
     mark-requires
-    same-length
     returns)

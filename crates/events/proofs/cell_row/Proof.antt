@@ -30,15 +30,11 @@ wide8-requires c κs = search needs
 
 -- src/lib.rt:83:5
 gate-requires : tie.Need-gate-requires
-gate-requires c κs = let s = c .before .before .before .before .before .before .before .before .before .before .before .before .pre in (rw (c .before .wide8 .ensures) (s .1 .0), s .0 .3, rw (c .before .before .before .wide .ensures, c .before .wide8 .ensures) (s .1 .2), s .1 .1)
-
--- src/lib.rt:70:1
-same-length : tie.Need-same-length
-same-length c = search needs
+gate-requires c κs = let s = c .before .before .before .before .before .before .before .before .before .before .before .pre in (rw (c .before .before .wide8 .ensures) (s .1 .0), s .0 .3, rw (c .before .before .before .before .wide .ensures, c .before .before .wide8 .ensures) (s .1 .2), s .1 .1)
 
 -- src/lib.rt:70:1
 returns : tie.Need-returns
-returns c = rw (c .before .before .before .before .before .before .wide .ensures, c .before .before .before .before .wide8 .ensures) at (c .before .before .gate .ensures)
+returns c = rw (c .before .before .before .before .before .wide .ensures, c .before .before .before .wide8 .ensures) at (c .gate .ensures)
 
 pub cell-row-spec : {M : Type 1} → statement M
 cell-row-spec =
@@ -51,5 +47,4 @@ cell-row-spec =
     shared-slice-read-wide8
     wide8-requires
     gate-requires
-    same-length
     returns)

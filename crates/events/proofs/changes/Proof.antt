@@ -6,7 +6,7 @@ use Rattle.events.proofs.changes.Tie as tie
 
 -- back from where the words are stored to the start
 abbrev start : tie.After-store → tie.Start
-start c = c .before .before .before .before .before .before .before .before .before
+start c = c .before .before .before .before .before
 
 add-store : tie.Need-add-store
 add-store c = search needs
@@ -46,28 +46,19 @@ wide-requires-2 c κs = search needs
 
 mark-requires : tie.Need-mark-requires
 mark-requires c κs =
-    let s = start (c .before .before .before .before .before .before .before .before .before .before .before) .pre in (
+    let s = start (c .before .before .before .before .before .before .before) .pre in (
       omega (arith, c .before .before .before .wide .ensures, c .before .wide2 .ensures, s .1 .0 .2),
       omega (arith, c .before .wide2 .ensures, s .1 .0 .3),
       s .0 .3,
       s .1 .1,
     )
 
-same-length : tie.Need-same-length
-same-length c = search needs
-
-same-length-2 : tie.Need-same-length-2
-same-length-2 c = search needs
-
-same-length-3 : tie.Need-same-length-3
-same-length-3 c = search needs
-
 returns : tie.Need-returns
 returns c = (
-  c .before .before .before .before .before .before .before .before .before .before .before .before .before .before .store .ensures,
+  c .before .before .before .before .before .before .before .before .store .ensures,
   (
-    c .before .before .before .before .before .before .before .before .before .before .put-bit .ensures,
-    rw (c .before .before .before .before .before .before .wide .ensures, c .before .before .before .before .wide2 .ensures) at (c .before .before .mark .ensures),
+    c .before .before .before .before .before .before .put-bit .ensures,
+    rw (c .before .before .before .before .wide .ensures, c .before .before .wide2 .ensures) at (c .mark .ensures),
   ),
 )
 
@@ -88,7 +79,4 @@ changes-spec =
     shared-slice-read-wide-2
     wide-requires-2
     mark-requires
-    same-length
-    same-length-2
-    same-length-3
     returns)

@@ -24,16 +24,16 @@ mul-vals : tie.Need-mul-vals Inv-loop μ-loop
 mul-vals c = search needs
 
 -- src/lib.rt:222:19
-shared-slice-read-vals : tie.Need-shared-slice-read-vals Inv-loop μ-loop
-shared-slice-read-vals c = search needs
+element-copy-out-vals : tie.Need-element-copy-out-vals Inv-loop μ-loop
+element-copy-out-vals c = search needs
 
 -- src/lib.rt:222:9
 mul-vals-2 : tie.Need-mul-vals-2 Inv-loop μ-loop
 mul-vals-2 c = search needs
 
 -- src/lib.rt:222:9
-slice-write-vals : tie.Need-slice-write-vals Inv-loop μ-loop
-slice-write-vals c = search needs
+element-write-vals : tie.Need-element-write-vals Inv-loop μ-loop
+element-write-vals c = search needs
 
 -- src/lib.rt:221:9
 add-x : tie.Need-add-x Inv-loop μ-loop
@@ -48,10 +48,6 @@ loop-again : tie.Need-loop-again Inv-loop μ-loop
 loop-again c = (omega arith, fill-more _ (c .before .before .loop .x) _ _ _ _ _ (c .before .before .loop .inv .1) (omega arith) (omega (arith, c .before .before .before .pre)) refl)
 
 -- src/lib.rt:217:1
-same-length : tie.Need-same-length Inv-loop μ-loop
-same-length c = search needs
-
--- src/lib.rt:217:1
 returns : tie.Need-returns Inv-loop μ-loop
 returns c = let e : c .before .loop .x ≡ c .before .before .args .n = omega arith in rw e at (c .before .loop .inv .1)
 
@@ -63,11 +59,10 @@ copy-words-spec =
     μ-loop
     loop-holds
     mul-vals
-    shared-slice-read-vals
+    element-copy-out-vals
     mul-vals-2
-    slice-write-vals
+    element-write-vals
     add-x
     loop-less
     loop-again
-    same-length
     returns)

@@ -11,8 +11,8 @@ mul-bits : tie.Need-mul-bits
 mul-bits c = search needs
 
 -- src/lib.rt:17:20
-slice-read-bits : tie.Need-slice-read-bits
-slice-read-bits c = search needs
+element-copy-out-bits : tie.Need-element-copy-out-bits
+element-copy-out-bits c = search needs
 
 -- src/lib.rt:17:35
 one-bit-requires : tie.Need-one-bit-requires
@@ -23,25 +23,20 @@ mul-bits-2 : tie.Need-mul-bits-2
 mul-bits-2 c = search needs
 
 -- src/lib.rt:17:5
-slice-write-bits : tie.Need-slice-write-bits
-slice-write-bits c = search needs
-
--- src/lib.rt:13:1
-same-length : tie.Need-same-length
-same-length c = search needs
+element-write-bits : tie.Need-element-write-bits
+element-write-bits c = search needs
 
 -- src/lib.rt:13:1
 returns : tie.Need-returns
-returns c = let s = c .before .before .before in bit-put (s .args .p) (s .args .bits .now) (c .one-bit .result) (omega arith) (s .pre .1) (c .one-bit .ensures)
+returns c = let s = c .before .before in bit-put (s .args .p) (s .args .bits .now) (c .one-bit .result) (omega arith) (s .pre .1) (c .one-bit .ensures)
 
 pub put-bit-spec : {M : Type 1} → statement M
 put-bit-spec =
     tie.close
     (tie.spec
     mul-bits
-    slice-read-bits
+    element-copy-out-bits
     one-bit-requires
     mul-bits-2
-    slice-write-bits
-    same-length
+    element-write-bits
     returns)

@@ -32,8 +32,8 @@ mul-vals-2 : tie.Need-mul-vals-2 Inv-loop μ-loop
 mul-vals-2 c = search needs
 
 -- src/lib.rt:136:28
-shared-slice-read-vals : tie.Need-shared-slice-read-vals Inv-loop μ-loop
-shared-slice-read-vals c = search needs
+element-copy-out-vals : tie.Need-element-copy-out-vals Inv-loop μ-loop
+element-copy-out-vals c = search needs
 
 -- src/lib.rt:136:14
 mul-vals-3 : tie.Need-mul-vals-3 Inv-loop μ-loop
@@ -48,8 +48,8 @@ mul-vals-4 : tie.Need-mul-vals-4 Inv-loop μ-loop
 mul-vals-4 c = search needs
 
 -- src/lib.rt:136:9
-slice-write-vals : tie.Need-slice-write-vals Inv-loop μ-loop
-slice-write-vals c = search needs
+element-write-vals : tie.Need-element-write-vals Inv-loop μ-loop
+element-write-vals c = search needs
 
 -- src/lib.rt:135:9
 add-k : tie.Need-add-k Inv-loop μ-loop
@@ -62,10 +62,6 @@ loop-less c = search needs
 -- src/lib.rt:135:5
 loop-again : tie.Need-loop-again Inv-loop μ-loop
 loop-again c = (omega arith, fill-more _ (c .before .before .loop .k) _ _ _ _ _ (c .before .before .loop .inv .1) (omega arith) (omega (arith, c .before .before .before .pre)) refl)
-
--- src/lib.rt:131:1
-same-length : tie.Need-same-length Inv-loop μ-loop
-same-length c = search needs
 
 -- src/lib.rt:131:1
 returns : tie.Need-returns Inv-loop μ-loop
@@ -81,13 +77,12 @@ restore-slot-spec =
     mul-vals
     add-vals
     mul-vals-2
-    shared-slice-read-vals
+    element-copy-out-vals
     mul-vals-3
     add-vals-2
     mul-vals-4
-    slice-write-vals
+    element-write-vals
     add-k
     loop-less
     loop-again
-    same-length
     returns)

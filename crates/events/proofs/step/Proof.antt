@@ -11,10 +11,10 @@ abbrev start : tie.After-wide → tie.Start
 start c = c .before .before .before .before
 
 abbrev read : tie.After-cell-row → tie.After-wide
-read c = c .before .before .before .before .before .before .before
+read c = c .before .before .before .before .before .before
 
 abbrev worked : tie.After-changes → tie.After-cell-row
-worked c = c .before .before .before .before .before .before .before .before .before .before .before .before .before .before
+worked c = c .before .before .before .before .before .before .before .before .before .before .before .before
 
 array-copy-out-order : tie.Need-array-copy-out-order
 array-copy-out-order c = search needs
@@ -37,12 +37,9 @@ array-copy-out-cell-row-2 c = search needs
 array-copy-out-cell-row-3 : tie.Need-array-copy-out-cell-row-3
 array-copy-out-cell-row-3 c = search needs
 
-slice-aggregate-cell-row : tie.Need-slice-aggregate-cell-row
-slice-aggregate-cell-row c = search needs
-
 cell-row-requires : tie.Need-cell-row-requires
 cell-row-requires c κs =
-    let w = c .before .before .before .before .before .before in
+    let w = c .before .before .before .before .before in
     let s = start w in
     let p = s .args .p in
     let C = s .pre .0 in
@@ -54,13 +51,13 @@ slice-aggregate-differs c = search needs
 
 add-differs : tie.Need-add-differs
 add-differs c =
-    let w = read (c .before .before .before .before) in
+    let w = read (c .before .before .before) in
     let s = start w in
     omega (arith, w .wide .ensures, s .pre .0 .cell (s .args .p) (s .pre .1 .0))
 
 differs-requires : tie.Need-differs-requires
 differs-requires c κs =
-    let n = c .before .before .before .before in
+    let n = c .before .before .before in
     let w = read n in
     let s = start w in
     (omega (arith, w .wide .ensures, s .pre .0 .cell (s .args .p) (s .pre .1 .0), s .pre .1 .1), n .cell-row .ensures .long)
@@ -71,12 +68,9 @@ array-copy-out-changes c = search needs
 array-copy-out-changes-2 : tie.Need-array-copy-out-changes-2
 array-copy-out-changes-2 c = search needs
 
-slice-aggregate-changes : tie.Need-slice-aggregate-changes
-slice-aggregate-changes c = search needs
-
 changes-requires : tie.Need-changes-requires
 changes-requires c κs =
-    let n = c .before .before .before .before .before .before .before .before .before .before .before .before .before in
+    let n = c .before .before .before .before .before .before .before .before .before .before .before in
     let w = read n in
     let s = start w in
     let p = s .args .p in
@@ -95,7 +89,7 @@ returns c =
 
 returns-2 : tie.Need-returns-2
 returns-2 c =
-    let n = c .before .before .before .before .before .before in
+    let n = c .before .before .before .before .before in
     let w = read n in
     let s = start w in
     stepped-same _ _ _ _ _ _ _ _ _ (s .pre .0) _ _ (s .pre .1 .0) _ _ _ _ _ (w .wide .result) (s .pre .1 .2) (s .pre .1 .3) (w .wide .ensures) (n .cell-row .ensures)
@@ -112,14 +106,12 @@ step-spec =
     array-copy-out-cell-row
     array-copy-out-cell-row-2
     array-copy-out-cell-row-3
-    slice-aggregate-cell-row
     cell-row-requires
     slice-aggregate-differs
     add-differs
     differs-requires
     array-copy-out-changes
     array-copy-out-changes-2
-    slice-aggregate-changes
     changes-requires
     returns
     returns-2)

@@ -1,6 +1,7 @@
 -- A fault is one that is tried alone or one of another cell, and the two calls take on disjoint sets, so all faults go on.
 use native.Mathlib.Omega.{arith}
-use Rattle.groups.proofs.Chunks.{ready-of, store-again, watch-alone, watch-places, chunk-tried}
+use Rattle.patterns.proofs.Words.{store-again}
+use Rattle.groups.proofs.Chunks.{ready-of, watch-alone, watch-places, chunk-tried}
 use borrow.Author.Needs.{needs}
 use Rattle.groups.proofs.try_chunk.Statement.{statement}
 use Rattle.groups.proofs.try_chunk.Tie as tie

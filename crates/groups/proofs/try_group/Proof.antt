@@ -9,7 +9,7 @@ use Rattle.events.specs.Lent.{kindsOf, countsOf, inputsOf, firstsOf, orderOf, h
 use Rattle.known.specs.Setting.{Long}
 use Rattle.rows.proofs.Bits.{split}
 use Rattle.stages.specs.Stage.{Watch, OutsOnly}
-use Rattle.groups.specs.Chunks.{Store}
+use Rattle.patterns.specs.Words.{Store}
 use Rattle.groups.proofs.Chunks.{stage-fewer}
 use Rattle.groups.proofs.Trying.{AllKnown, group-start, group-step, outs-step, group-done, group-idle}
 use borrow.Author.Needs.{needs}

@@ -15,8 +15,8 @@ cast-best : tie.Need-cast-best
 cast-best c = search needs
 
 -- src/lib.rt:137:5
-slice-write-best : tie.Need-slice-write-best
-slice-write-best c = search needs
+element-write-best : tie.Need-element-write-best
+element-write-best c = search needs
 
 -- src/lib.rt:138:14
 cast-pat : tie.Need-cast-pat
@@ -27,16 +27,16 @@ mul-pat : tie.Need-mul-pat
 mul-pat c = search needs
 
 -- src/lib.rt:138:5
-slice-write-pat : tie.Need-slice-write-pat
-slice-write-pat c = search needs
+element-write-pat : tie.Need-element-write-pat
+element-write-pat c = search needs
 
 -- src/lib.rt:139:15
 mul-left : tie.Need-mul-left
 mul-left c = search needs
 
 -- src/lib.rt:139:15
-slice-read-left : tie.Need-slice-read-left
-slice-read-left c = search needs
+element-copy-out-left : tie.Need-element-copy-out-left
+element-copy-out-left c = search needs
 
 -- src/lib.rt:139:26
 one-bit-requires : tie.Need-one-bit-requires
@@ -44,48 +44,33 @@ one-bit-requires c κs = search needs
 
 -- src/lib.rt:139:26
 sub-left : tie.Need-sub-left
-sub-left c = omega (arith, c .one-bit .ensures, pow-pos (c .before .before .before .before .before .args .z))
+sub-left c = omega (arith, c .one-bit .ensures, pow-pos (c .before .before .args .z))
 
 -- src/lib.rt:139:5
 mul-left-2 : tie.Need-mul-left-2
 mul-left-2 c = search needs
 
 -- src/lib.rt:139:5
-slice-write-left : tie.Need-slice-write-left
-slice-write-left c = search needs
-
--- src/lib.rt:131:1
-same-length : tie.Need-same-length
-same-length c = search needs
-
--- src/lib.rt:131:1
-same-length-2 : tie.Need-same-length-2
-same-length-2 c = search needs
-
--- src/lib.rt:131:1
-same-length-3 : tie.Need-same-length-3
-same-length-3 c = search needs
+element-write-left : tie.Need-element-write-left
+element-write-left c = search needs
 
 -- src/lib.rt:131:1
 returns : tie.Need-returns
-returns c = let a = c .before .before .before .before .before .args in (ap (λ w. set (a .left .now) (a .f) (bitAnd (getD (a .left .now) (a .f) 0) (w - 1))) (c .one-bit .ensures), (refl, refl))
+returns c = let a = c .before .before .args in (ap (λ w. set (a .left .now) (a .f) (bitAnd (getD (a .left .now) (a .f) 0) (w - 1))) (c .one-bit .ensures), (refl, refl))
 
 pub enter-spec : {M : Type 1} → statement M
 enter-spec =
     tie.close
     (tie.spec
     cast-best
-    slice-write-best
+    element-write-best
     cast-pat
     mul-pat
-    slice-write-pat
+    element-write-pat
     mul-left
-    slice-read-left
+    element-copy-out-left
     one-bit-requires
     sub-left
     mul-left-2
-    slice-write-left
-    same-length
-    same-length-2
-    same-length-3
+    element-write-left
     returns)

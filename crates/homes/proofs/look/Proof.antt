@@ -5,10 +5,10 @@ use Rattle.homes.specs.Homes.{laneAt}
 use Rattle.homes.proofs.Lanes.{look-miss, look-hit, look-more}
 use borrow.Author.Needs.{needs}
 use Prim.Native.Nat.{ℕ, _-_, _≤_, _<_}
-use mathlib.Core.Path.{_≡_, refl, ap}
+use mathlib.Core.Path.{_≡_, refl}
 use mathlib.Core.Bool.{true, false}
 use native.Mathlib.Omega.{arith}
-use lib.ListN.{length, getD}
+use lib.ListN.{getD}
 use Rattle.homes.proofs.look.Statement.{statement}
 use Rattle.homes.proofs.look.Tie as tie
 
@@ -20,7 +20,7 @@ abbrev μ-loop : tie.MeasureT-loop
 
 -- each step back is named after where it leads: to the start, to the loop, and to the output found
 abbrev start : tie.At-loop Inv-loop μ-loop → tie.Start Inv-loop μ-loop
-start c = c .before .before .before .before .before .before .before .before .before
+start c = c .before .before .before .before .before .before
 
 abbrev looped : tie.After-next Inv-loop μ-loop → tie.At-loop Inv-loop μ-loop
 looped c = c .before .before
@@ -83,8 +83,8 @@ enter-requires c κs =
 -- what a hit leaves; a rewrite does not see through a named step, so two steps are written out: v is where the hit is entered, and m where its lane is known
 looked : tie.Need-returns Inv-loop μ-loop
 looked c =
-    let v = c .before .before .before .before .before .before in
-    let m = c .before .before .before .before .before .before .before .before .before .before .before in
+    let v = c in
+    let m = c .before .before .before .before .before in
     let n = found m in
     let g = looped n in
     let s = start g in
@@ -96,15 +96,6 @@ looked c =
     (omega (arith, n .before .loop-test .taken)) (λ y i h d k. l .inv .4 y i h (omega (arith, n .before .loop-test .taken)) d k)
     (v .before .before .before .before .if2 .taken) (rw (m .before .before .before .wide .ensures, m .before .wide2 .ensures) at (m .common .ensures))
     (rw (l .inv .1) at (e .0)) (rw (l .inv .2) at (e .1 .0)) (rw (l .inv .3) at (e .1 .1))
-
-same-length : tie.Need-same-length Inv-loop μ-loop
-same-length c = looked c .long-left
-
-same-length-2 : tie.Need-same-length-2 Inv-loop μ-loop
-same-length-2 c = looked c .long-best
-
-same-length-3 : tie.Need-same-length-3 Inv-loop μ-loop
-same-length-3 c = looked c .long-pat
 
 returns : tie.Need-returns Inv-loop μ-loop
 returns c = looked c
@@ -130,15 +121,6 @@ loop-again c =
           (λ h i k. ⊎-elim (λ x. rw (x .2 .ensures, x .4 .ensures) at (x .5 .ensures .none i (omega (arith, x .6 .left)))) (λ x. absurd (omega (arith, x .left, h))) (c .if1 .came)),
     )
 
-same-length-4 : tie.Need-same-length-4 Inv-loop μ-loop
-same-length-4 c = ap length (c .before .loop .inv .1)
-
-same-length-5 : tie.Need-same-length-5 Inv-loop μ-loop
-same-length-5 c = ap length (c .before .loop .inv .2)
-
-same-length-6 : tie.Need-same-length-6 Inv-loop μ-loop
-same-length-6 c = ap length (c .before .loop .inv .3)
-
 returns-2 : tie.Need-returns-2 Inv-loop μ-loop
 returns-2 c =
     let a = start (c .before) .args in
@@ -163,14 +145,8 @@ look-spec =
     mul-enter
     add-enter
     enter-requires
-    same-length
-    same-length-2
-    same-length-3
     returns
     add-at
     loop-less
     loop-again
-    same-length-4
-    same-length-5
-    same-length-6
     returns-2)

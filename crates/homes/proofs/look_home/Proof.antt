@@ -17,7 +17,7 @@ abbrev μ-loop : tie.MeasureT-loop
 
 -- each step back is named after where it leads: to the start, to the loop, to the number of the fault, and to the lanes in which it changes the home
 abbrev start : tie.At-loop Inv-loop μ-loop → tie.Start Inv-loop μ-loop
-start c = c .before .before .before .before .before .before .before .before
+start c = c .before .before .before .before .before
 
 abbrev looped : tie.After-number Inv-loop μ-loop → tie.At-loop Inv-loop μ-loop
 looped c = c .before .before
@@ -40,7 +40,7 @@ add-e-end c = search needs
 
 loop-holds : tie.Need-loop-holds Inv-loop μ-loop
 loop-holds c =
-    let s = c .before .before .before .before .before .before .before in (
+    let s = c .before .before .before .before in (
       omega arith,
       refl,
       home-none _ _ _ _ _ _ _ _ _ _ _ _ _ _ _ (s .pre .1 .1 .0) (s .pre .1 .1 .1) (s .pre .1 .1 .2),
@@ -52,8 +52,8 @@ number-requires c κs = search needs
 mul-if1 : tie.Need-mul-if1 Inv-loop μ-loop
 mul-if1 c = omega (arith, few c)
 
-slice-read-if1 : tie.Need-slice-read-if1 Inv-loop μ-loop
-slice-read-if1 c = let m = c .before in omega (arith, few m, looped m .loop .inv .2 .long-left)
+element-copy-out-if1 : tie.Need-element-copy-out-if1 Inv-loop μ-loop
+element-copy-out-if1 c = let m = c in omega (arith, few m, looped m .loop .inv .2 .long-left)
 
 add-home-diff : tie.Need-add-home-diff Inv-loop μ-loop
 add-home-diff c = search needs
@@ -67,8 +67,8 @@ home-diff-requires c κs = search needs
 mul-look : tie.Need-mul-look Inv-loop μ-loop
 mul-look c = omega (arith, few (numbered (c .before)))
 
-slice-read-look : tie.Need-slice-read-look Inv-loop μ-loop
-slice-read-look c = let m = numbered (c .before .before) in omega (arith, few m, looped m .loop .inv .2 .long-left)
+element-copy-out-look : tie.Need-element-copy-out-look Inv-loop μ-loop
+element-copy-out-look c = let m = numbered (c .before) in omega (arith, few m, looped m .loop .inv .2 .long-left)
 
 slice-aggregate-look : tie.Need-slice-aggregate-look Inv-loop μ-loop
 slice-aggregate-look c = search needs
@@ -99,19 +99,10 @@ loop-again c =
       omega arith,
       refl,
       ⊎-elim
-          (λ x. rw (x .16, x .17, x .18) (home-more _ _ _ _ _ _ _ _ _ _ _ _ _ _ _ _ _ _ _ (l .inv .2) (s .pre .1 .0 .0) (m .number .result) _ _ _ _ _ (m .number .ensures) (x .2 .ensures) (x .9 .ensures)))
+          (λ x. rw (x .10, x .11, x .12) (home-more _ _ _ _ _ _ _ _ _ _ _ _ _ _ _ _ _ _ _ (l .inv .2) (s .pre .1 .0 .0) (m .number .result) _ _ _ _ _ (m .number .ensures) (x .2 .ensures) (x .9 .ensures)))
           (λ x. rw (x .1, x .2, x .3) (home-skip _ _ _ _ _ _ _ _ _ _ _ _ _ _ _ _ _ _ _ (l .inv .2) (s .pre .1 .0 .0) (m .number .result) (m .number .ensures) (x .0 .left)))
           (c .if1 .came),
     )
-
-same-length : tie.Need-same-length Inv-loop μ-loop
-same-length c = let s = start (c .before) in omega (arith, c .before .loop .inv .2 .long-left, s .pre .1 .1)
-
-same-length-2 : tie.Need-same-length-2 Inv-loop μ-loop
-same-length-2 c = let s = start (c .before) in omega (arith, c .before .loop .inv .2 .long-best, s .pre .1 .1)
-
-same-length-3 : tie.Need-same-length-3 Inv-loop μ-loop
-same-length-3 c = let s = start (c .before) in omega (arith, c .before .loop .inv .2 .long-pat, s .pre .1 .1)
 
 returns : tie.Need-returns Inv-loop μ-loop
 returns c =
@@ -130,18 +121,15 @@ look-home-spec =
     loop-holds
     number-requires
     mul-if1
-    slice-read-if1
+    element-copy-out-if1
     add-home-diff
     slice-aggregate-home-diff
     home-diff-requires
     mul-look
-    slice-read-look
+    element-copy-out-look
     slice-aggregate-look
     look-requires
     add-e
     loop-less
     loop-again
-    same-length
-    same-length-2
-    same-length-3
     returns)

@@ -7,7 +7,7 @@ use Rattle.known.proofs.look_all.Tie as tie
 
 -- back from where all lanes are set to the start
 abbrev start : tie.After-all-lanes → tie.Start
-start c = c .before .before .before .before .before .before .before .before .before
+start c = c .before .before .before .before .before .before
 
 slice-aggregate-all-lanes : tie.Need-slice-aggregate-all-lanes
 slice-aggregate-all-lanes c = search needs
@@ -31,21 +31,12 @@ look-requires c κs =
       ),
     )
 
-same-length : tie.Need-same-length
-same-length c = search needs
-
-same-length-2 : tie.Need-same-length-2
-same-length-2 c = search needs
-
-same-length-3 : tie.Need-same-length-3
-same-length-3 c = search needs
-
 returns : tie.Need-returns
 returns c =
-    let n = c .before .before .before .before .before .before .before .before .before .before .before .before in
+    let n = c .before .before .before .before .before .before in
     let a = start n .args in
     looked-runs _ _ _ _ _ (a .outs .now) (a .ends .now) (a .goods .now) (a .vals .now) _ _ _ _ _ _ (n .all-lanes .ensures)
-    (c .before .before .before .before .before .before .look .ensures)
+    (c .look .ensures)
 
 pub look-all-spec : {M : Type 1} → statement M
 look-all-spec =
@@ -55,7 +46,4 @@ look-all-spec =
     all-lanes-requires
     slice-aggregate-look
     look-requires
-    same-length
-    same-length-2
-    same-length-3
     returns)

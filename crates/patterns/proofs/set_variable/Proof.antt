@@ -39,8 +39,8 @@ mul-goods-2 : tie.Need-mul-goods-2 Inv-loop μ-loop
 mul-goods-2 c = search needs
 
 -- src/lib.rt:13:9
-slice-write-goods : tie.Need-slice-write-goods Inv-loop μ-loop
-slice-write-goods c = search needs
+element-write-goods : tie.Need-element-write-goods Inv-loop μ-loop
+element-write-goods c = search needs
 
 -- src/lib.rt:12:9
 add-k : tie.Need-add-k Inv-loop μ-loop
@@ -52,11 +52,7 @@ loop-less c = search needs
 
 -- src/lib.rt:12:5
 loop-again : tie.Need-loop-again Inv-loop μ-loop
-loop-again c = let l = c .before .before .loop in let s = c .before .before .before .before in (omega arith, word-more (s .args .i) (s .args .q) (l .k) _ _ _ (l .inv .1) (omega (arith, s .pre)) (omega arith) (c .pattern-word .ensures))
-
--- src/lib.rt:8:1
-same-length : tie.Need-same-length Inv-loop μ-loop
-same-length c = search needs
+loop-again c = let l = c .before .before .loop in let s = c .before .before .before in (omega arith, word-more (s .args .i) (s .args .q) (l .k) _ _ _ (l .inv .1) (omega (arith, s .pre)) (omega arith) (c .pattern-word .ensures))
 
 -- src/lib.rt:8:1
 returns : tie.Need-returns Inv-loop μ-loop
@@ -74,9 +70,8 @@ set-variable-spec =
     mul-goods
     add-goods
     mul-goods-2
-    slice-write-goods
+    element-write-goods
     add-k
     loop-less
     loop-again
-    same-length
     returns)

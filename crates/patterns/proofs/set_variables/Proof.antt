@@ -20,7 +20,7 @@ loop-holds c = (omega arith, slots-none _ _)
 
 -- src/lib.rt:23:9
 set-variable-requires : tie.Need-set-variable-requires Inv-loop μ-loop
-set-variable-requires c κs = let s = c .before .before .before .before in (omega (arith, s .pre .0), s .pre .1, c .before .before .loop .inv .1 .long ∙ s .pre .2)
+set-variable-requires c κs = let s = c .before .before .before in (omega (arith, s .pre .0), s .pre .1, c .before .before .loop .inv .1 .long ∙ s .pre .2)
 
 -- src/lib.rt:22:9
 add-i : tie.Need-add-i Inv-loop μ-loop
@@ -32,15 +32,11 @@ loop-less c = search needs
 
 -- src/lib.rt:22:5
 loop-again : tie.Need-loop-again Inv-loop μ-loop
-loop-again c = let l = c .before .before .before .before .before .loop in let s = c .before .before .before .before .before .before .before in (omega arith, slots-more (l .i) (s .args .q) _ _ _ (l .inv .1) (c .before .before .set-variable .ensures))
-
--- src/lib.rt:18:1
-same-length : tie.Need-same-length Inv-loop μ-loop
-same-length c = search needs
+loop-again c = let l = c .before .before .before .loop in let s = c .before .before .before .before in (omega arith, slots-more (l .i) (s .args .q) _ _ _ (l .inv .1) (c .set-variable .ensures))
 
 -- src/lib.rt:18:1
 returns : tie.Need-returns Inv-loop μ-loop
-returns c = let e : c .before .loop .i ≡ c .before .before .before .args .w = omega arith in rw e at (c .before .loop .inv .1)
+returns c = let e : c .before .loop .i ≡ c .before .before .args .w = omega arith in rw e at (c .before .loop .inv .1)
 
 pub set-variables-spec : {M : Type 1} → statement M
 set-variables-spec =
@@ -53,5 +49,4 @@ set-variables-spec =
     add-i
     loop-less
     loop-again
-    same-length
     returns)

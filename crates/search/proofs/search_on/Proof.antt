@@ -8,8 +8,8 @@ use Rattle.faults.specs.Sites.{Known}
 use Rattle.faults.proofs.Sites.{is-unknown, is-known}
 use Rattle.opening.specs.Open.{netlistOf}
 use Rattle.spots.proofs.Playing.{drivers, blocks-less, blocks-row, blocks-played}
-use Rattle.search.specs.Inner.Answered.{Answered}
-use Rattle.search.proofs.Answering.{own-bit, playable, reply-12, reply-11, replies-refused, replies-none, replies-found}
+use Rattle.findings.specs.Answered.{Answered}
+use Rattle.findings.proofs.Answering.{own-bit, playable, reply-12, reply-11, replies-refused, replies-none, replies-found}
 use Rattle.search.proofs.search_on.Statement.{statement}
 use Rattle.search.proofs.search_on.Tie as tie
 

@@ -15,9 +15,9 @@ use Rattle.walk.specs.Walk.{widthOf}
 use Rattle.walk.proofs.Walking.{ready-few, ready-laid}
 use Rattle.events.specs.Lent.{kindsOf, countsOf, firstsOf, orderOf, netsOf}
 use Rattle.stages.specs.Stage.{Watch}
-use Rattle.groups.specs.Chunks.{Store}
+use Rattle.patterns.specs.Words.{Store}
+use Rattle.patterns.proofs.Words.{store-blank}
 use Rattle.verdicts.specs.Verdicts.{AllSofar}
-use Rattle.verdicts.proofs.Judging.{store-blank}
 use Rattle.verdicts.proofs.Outputs.{todo-fewer, todo-below, todo-skip, all-start, todo-there, all-step, only-left, all-end, group-of-alike}
 use Rattle.verdicts.proofs.try_outputs.Statement.{statement}
 use Rattle.verdicts.proofs.try_outputs.Tie as tie
