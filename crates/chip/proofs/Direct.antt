@@ -175,7 +175,7 @@ module _ (N : Netlist) (S : Sound N) (R : Ranked N) (B : Blocks) (cnt : Counted 
       let s : f.pin (a + i) (w (net_for N B (home N B (a + i)) (N.net (a + i))) 0) ≡ g.pin (a + i) (u (direct_net N B (a + i)) 0) =
       at_pin (a + i) (pin_in N j (a + i) o) (outside N S j (a + i) o np) (λ m c' n np'. cells_alike k m (omega (arith, R.below j (a + i) o, ap R.rank n)) c' np') in
       cc in
-      let count : ones (sees (transformed N B) (transformed_lines N B f) w 0) a (N.pins j) ≡ ones (sees (direct N B) g u 0) a (N.pins j) = ones_same _ _ a (N.pins j) pin in
+      let count : ones (sees (transformed N B) (transformed_lines N B f) w 0) a (N.pins j) ≡ ones (sees (direct N B) g u 0) a (N.pins j) = ones_same (sees (transformed N B) (transformed_lines N B f) w 0) (sees (direct N B) g u 0) a (N.pins j) pin in
       let fo : first_pin (opened N B) j ≡ a = first_old N B j (omega arith) in
       let oc : old_cell N B j ≡ j = old_of_cell N B j c in
       let see : ℕ → Bool = sees (transformed N B) (transformed_lines N B f) w 0 in

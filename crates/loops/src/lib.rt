@@ -1,3 +1,4 @@
+#![tactic(auto)]
 // The lowest net that reaches itself: the place of refusal 9.
 ghost use Rattle.std.specs.Prelude.{List, ℕ, ◌+◌, ◌<◌, get_or};
 ghost use Rattle.chip.specs.Inner.Tables.{FirstPins, tabled};

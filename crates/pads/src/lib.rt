@@ -1,3 +1,4 @@
+#![tactic(auto)]
 // The input that each pin is a branch of. A pad buffer, a BUF that an input or another pad buffer feeds, belongs to that input.
 ghost use Rattle.std.specs.Prelude.{◌≡◌, ◌≤◌, length};
 ghost use Rattle.chip.specs.Netlist.{all_pins};

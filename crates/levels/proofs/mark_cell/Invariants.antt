@@ -1,0 +1,14 @@
+use borrow.Author.Rules.{rules}
+use mathlib.Core.Path.{◌≡◌, refl}
+use Prim.Native.Nat.{◌-◌, ◌≤◌}
+use native.Mathlib.Omega.{arith}
+use Rattle.levels.specs.Marking.{Marked}
+use Rattle.levels.proofs.Marking.{marked_more}
+use Rattle.levels.proofs.mark_cell.Given as goal
+
+abbrev pub invariant-loop-k : goal.invariant-loop-k
+invariant-loop-k l =
+    (l.k ≤ l.n) × Marked l.nets (λ _. l.word) l.a l.k l.initial.pins l.initial.reached l.pins l.reached
+
+abbrev pub decreases-loop-k : goal.decreases-loop-k
+decreases-loop-k l = l.n - l.k

@@ -1,0 +1,17 @@
+use borrow.Author.Rules.{rules}
+use mathlib.Core.Path.{◌≡◌, sym, ◌∙◌, subst}
+use mathlib.Core.Logic.{inl, inr, ⊎_elim}
+use Prim.Native.Nat.{ℕ, suc, ◌+◌, ◌-◌, ◌≤◌, ◌<◌}
+use native.Mathlib.Omega.{arith}
+use Rattle.chip.specs.Inner.Tables.{tabled}
+use Rattle.levels.specs.Marking.{Sized, Done}
+use Rattle.levels.proofs.Cells.{From, CellsKept, from_last, level_done, cell_done}
+use Rattle.levels.proofs.mark_cells.Given as goal
+
+-- the cells from place k of the order on are done, whatever the outputs and the depth
+abbrev pub invariant-loop-k : goal.invariant-loop-k
+invariant-loop-k l =
+    (l.k ≤ l.c) × Sized l.pins l.reached × ((o e : ℕ) → CellsKept (tabled l.i l.c o l.kinds l.counts l.nets) e l.k l.firsts l.order l.before l.initial.pins l.initial.reached l.pins l.reached)
+
+abbrev pub decreases-loop-k : goal.decreases-loop-k
+decreases-loop-k l = l.k

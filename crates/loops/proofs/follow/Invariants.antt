@@ -1,0 +1,19 @@
+use Prim.Native.Nat.{◌+◌, ◌-◌, ◌≤◌, ◌<◌}
+use mathlib.Core.Path.{◌≡◌}
+use native.Mathlib.Omega.{arith}
+use lib.ListN.{get_or}
+use borrow.Author.Rules.{rules}
+use mathlib.Core.Bool.{false}
+use Rattle.order.specs.Placed.{PinAt, fed}
+use Rattle.order.proofs.Listed.{free}
+use Rattle.order.proofs.Order.{fed_false}
+use Rattle.loops.specs.Walk.{Followed}
+use Rattle.loops.proofs.Walk.{follow_start, follow_kept, follow_more, follow_done}
+use Rattle.loops.proofs.follow.Given as goal
+
+abbrev pub invariant-loop-p : goal.invariant-loop-p
+invariant-loop-p l =
+    (get_or l.firsts l.j 0 ≤ l.p) × Followed l.i l.c l.firsts l.nets l.j l.initial.list l.before l.list l.places l.n l.p
+
+abbrev pub decreases-loop-p : goal.decreases-loop-p
+decreases-loop-p l = l.to - l.p

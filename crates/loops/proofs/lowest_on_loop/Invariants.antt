@@ -1,0 +1,15 @@
+use Prim.Native.Nat.{ℕ, ◌-◌, ◌≤◌}
+use mathlib.Core.List.{List}
+use native.Mathlib.Omega.{arith}
+use borrow.Author.Rules.{rules}
+use borrow.Author.Count.{below_more}
+use Rattle.chip.specs.Inner.Tables.{FirstPins, tabled}
+use Rattle.loops.proofs.Lowest.{NoneTo, lowest, found}
+use Rattle.loops.proofs.lowest_on_loop.Given as goal
+
+abbrev pub invariant-loop-j : goal.invariant-loop-j
+invariant-loop-j l =
+    (l.from ≤ l.j) × ((o : ℕ) (kinds counts : List ℕ) → FirstPins (tabled l.i l.c o kinds counts l.nets) l.firsts → NoneTo (tabled l.i l.c o kinds counts l.nets) l.from l.j)
+
+abbrev pub decreases-loop-j : goal.decreases-loop-j
+decreases-loop-j l = l.c - l.j

@@ -1,0 +1,15 @@
+use Prim.Native.Nat.{◌-◌, ◌<◌}
+use mathlib.Core.Path.{refl}
+use native.Mathlib.Omega.{arith}
+use lib.ListN.{get_or-replicate}
+use borrow.Author.Rules.{rules}
+use Rattle.order.proofs.Listed.{none_listed}
+use Rattle.loops.specs.Walk.{Walked}
+use Rattle.loops.proofs.Walk.{walk_start, walk_more, walk_done}
+use Rattle.loops.proofs.on_loop.Given as goal
+
+abbrev pub invariant-loop-k : goal.invariant-loop-k
+invariant-loop-k l = Walked l.i l.c l.firsts l.nets l.own l.list l.places l.n l.k
+
+abbrev pub decreases-loop-k : goal.decreases-loop-k
+decreases-loop-k l = l.c - l.k

@@ -1,0 +1,15 @@
+use Prim.Native.Nat.{◌+◌, ◌-◌, ◌≤◌}
+use mathlib.Core.Path.{◌≡◌, refl}
+use native.Mathlib.Omega.{arith}
+use lib.ListN.{get_or, length, length-set}
+use borrow.Author.Rules.{rules}
+use Rattle.chip.specs.Netlist.{sum_below}
+use Rattle.order.proofs.Order.{FirstsTo, sum_more, sum_within, firsts_start, firsts_more}
+use Rattle.order.proofs.first_pins.Given as goal
+
+abbrev pub invariant-loop-j : goal.invariant-loop-j
+invariant-loop-j l =
+    (l.j ≤ l.c) × (l.p ≡ sum_below (λ k. get_or l.counts k 0) l.j) × FirstsTo l.j l.counts l.table × (length l.table ≡ 1025)
+
+abbrev pub decreases-loop-j : goal.decreases-loop-j
+decreases-loop-j l = l.c - l.j

@@ -1,0 +1,20 @@
+use Prim.Native.Nat.{ℕ, ◌+◌, ◌-◌, ◌≤◌, ◌<◌}
+use mathlib.Core.Path.{◌≡◌, ap, ◌∙◌}
+use native.Mathlib.Omega.{arith}
+use borrow.Author.Rules.{rules}
+use lib.ListN.{length, get_or, length-set}
+use Rattle.chip.specs.Netlist.{Netlist}
+use Rattle.chip.specs.Inner.Tables.{tabled}
+use Rattle.chip.specs.Pads.{source}
+use Rattle.chip.proofs.Entries.{entry_more}
+use Rattle.pads.proofs.pin_sources.Reads as reads
+use Rattle.pads.proofs.pin_sources.Lts as lts
+use Rattle.chip.proofs.wide.Reads as wide-reads
+use Rattle.pads.proofs.pin_sources.Given as goal
+
+abbrev pub invariant-loop-p : goal.invariant-loop-p
+invariant-loop-p l =
+    (l.p ≤ l.n) × (length l.table ≡ 4096) × ((q : ℕ) → q < l.p → get_or l.table q 0 ≡ source (tabled l.i l.c l.o l.kinds l.counts l.nets) (get_or l.nets q 0))
+
+abbrev pub decreases-loop-p : goal.decreases-loop-p
+decreases-loop-p l = l.n - l.p

@@ -1,0 +1,11 @@
+-- A one shifted left by k below 64 loses no bit, so the word is the power 2 ^ k.
+use borrow.Author.Rules.{rules}
+use mathlib.Core.Path.{◌∙◌}
+use Prim.Native.Nat.{◌^◌}
+use native.Mathlib.Nat.{one-mul}
+use native.Mathlib.Omega.{arith}
+use lib.Pow.{shl_exact}
+use Rattle.words.proofs.one_bit.Goals as goal
+
+pub returns : goal.returns
+returns c = shl_exact {a = 1} 1 c.args.k 64 (omega arith) (omega arith) ∙ one-mul (2 ^ c.args.k)
