@@ -1,3 +1,4 @@
+#![tactic(auto)]
 // From a netlist file to the order of its cells, its depth, blocks and class.
 ghost use Rattle.std.specs.Prelude.{◌≡◌, List, ℕ, suc, ◌≤◌, ◌<◌, get_or};
 ghost use Rattle.chip.specs.Netlist.{Netlist, all_pins};
