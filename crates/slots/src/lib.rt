@@ -1,3 +1,4 @@
+#![tactic(auto)]
 // The slots of a chunk of patterns: those of an output's variables, and the one that each pin looks at, in the good circuit and under a fault.
 // A slot holds what the patterns of the chunk give one place: slots 0 to 15 are the variables, slot 16 + j is cell j's, slot 1040 holds zeros and slot 1041 ones.
 ghost use Rattle.std.specs.Prelude.{◌≡◌, ℕ, ◌+◌, ◌≤◌, ◌<◌, length, get_or};
