@@ -1,3 +1,4 @@
+#![tactic(auto)]
 // Writes a netlist that stands in tables as a netlist file: input k has pad k + 1, and output z of a netlist with i inputs pad i + 1 + z.
 ghost use Rattle.std.specs.Prelude.{◌≡◌, List, ◌∷◌, ◌++◌, ℕ, ◌+◌, ◌*◌, ◌≤◌, length, get_or};
 ghost use Rattle.chip.specs.Netlist.{sum_below, all_pins};
