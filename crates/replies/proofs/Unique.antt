@@ -22,7 +22,6 @@ use Rattle.chip.specs.declared.Setting.{Setting}
 use Rattle.chip.specs.declared.ReadBack.{ReadBack}
 use Rattle.chip.specs.declared.Checked.{Checked}
 use Rattle.chip.specs.declared.Searched.{Searched}
-use Rattle.chip.specs.declared.Searched.TheVariants as Searched
 use Rattle.chip.proofs.LookBack.{Balanced}
 use Rattle.chip.proofs.Loops.{ranked}
 use Rattle.chip.proofs.Clocks.{one_play, one_pattern, block_low, sets_same}
