@@ -25,7 +25,6 @@ use Rattle.chip.specs.declared.Setting.TheVariants as Setting
 use Rattle.chip.specs.declared.ReadBack.TheVariants as ReadBack
 use Rattle.chip.specs.declared.Checked.TheVariants as Checked
 use Rattle.chip.specs.declared.Searched.{Searched}
-use Rattle.chip.specs.declared.Searched.TheVariants as Searched
 use Rattle.chip.proofs.Decide.{reaches}
 use Rattle.chip.proofs.Basics.{Ranked}
 use Rattle.chip.proofs.Runs.{made, run, starts}

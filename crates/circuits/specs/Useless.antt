@@ -16,17 +16,11 @@ use Rattle.chip.specs.Replies.{ClassReply, TransformReply, SetReply, ReadReply, 
 use Rattle.chip.specs.declared.Site.TheVariants.{Net}
 use Rattle.chip.specs.declared.Fault.{Fault}
 use Rattle.chip.specs.declared.Classed.{Classed}
-use Rattle.chip.specs.declared.Classed.TheVariants as Classed
 use Rattle.chip.specs.declared.Transformed.{Transformed}
-use Rattle.chip.specs.declared.Transformed.TheVariants as Transformed
 use Rattle.chip.specs.declared.Setting.{Setting}
-use Rattle.chip.specs.declared.Setting.TheVariants as Setting
 use Rattle.chip.specs.declared.ReadBack.{ReadBack}
-use Rattle.chip.specs.declared.ReadBack.TheVariants as ReadBack
 use Rattle.chip.specs.declared.Checked.{Checked}
-use Rattle.chip.specs.declared.Checked.TheVariants as Checked
 use Rattle.chip.specs.declared.Searched.{Searched}
-use Rattle.chip.specs.declared.Searched.TheVariants as Searched
 
 -- a call: what it may be given, what it answers, what its contract allows it to answer and to leave, and its refusals
 pub record Call : Type 1 where
