@@ -1,3 +1,4 @@
+#![tactic(auto)]
 // Lines of text on standard output, through a buffer, `line`: its first `used` bytes wait to be written. Every function
 // leaves `used` within the buffer.
 ghost use Rattle.std.specs.Prelude.{◌+◌, ◌≤◌, ◌<◌, ◌≡◌, length};
