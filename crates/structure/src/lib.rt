@@ -20,14 +20,14 @@ use chip::{
 use order::Ordering;
 
 // The depth, and the lowest input that reaches an output with two depths, or the number of inputs if none does.
-#[derive(Drop)]
+#[derive(Clone, Copy)]
 pub struct Measured {
     pub depth: usize,
     pub input: usize,
 }
 
 // These, or the lowest output that is deeper than 255.
-#[derive(Drop)]
+#[derive(Clone, Copy)]
 pub enum Depths {
     Is(Measured),
     Over(usize),
@@ -35,7 +35,7 @@ pub enum Depths {
 
 // What is worked out of a netlist: its depth, its class, the number of its blocks,
 // and for class 1 the lowest input with a block of two depths to one output.
-#[derive(Drop)]
+#[derive(Clone, Copy)]
 pub struct Shape {
     pub depth: usize,
     pub class: u8,
@@ -44,7 +44,7 @@ pub struct Shape {
 }
 
 // A netlist with a loop, with the lowest net that reaches itself; one with an output that is too deep; or a chip that is prepared.
-#[derive(Drop)]
+#[derive(Clone, Copy)]
 pub enum Found {
     Looped(usize),
     TooDeep(usize),
