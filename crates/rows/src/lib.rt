@@ -1,3 +1,4 @@
+#![tactic(auto)]
 // A slot holds 16 words of 64 patterns: word k of slot s stands at 16 * s + k of a table.
 ghost use Rattle.std.specs.Prelude.{◌≡◌, true, false, ℕ, ◌+◌, ◌-◌, ◌*◌, ◌^◌, ◌≤◌, ◌<◌, length, get_or};
 ghost use Rattle.std.specs.Int.Bits.{bit_and, bit_or, bit_xor};

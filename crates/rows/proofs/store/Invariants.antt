@@ -1,0 +1,10 @@
+use Rattle.rows.specs.Rows.{Filled}
+use Prim.Native.Nat.{◌-◌, ◌*◌, ◌≤◌}
+use lib.ListN.{get_or}
+use Rattle.rows.proofs.store.Given as goal
+
+abbrev pub invariant-loop-k : goal.invariant-loop-k
+invariant-loop-k l = (l.k ≤ 16) × Filled (16 * l.s) l.k (λ k. get_or l.acc k 0) l.initial.vals l.vals
+
+abbrev pub decreases-loop-k : goal.decreases-loop-k
+decreases-loop-k l = 16 - l.k
