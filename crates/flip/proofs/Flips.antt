@@ -250,7 +250,7 @@ module _ (N : Netlist) (low : ℕ → ℕ) (rel : ℕ → ℕ → Bool) (z : ℕ
             made_same _ _ j c (λ p o. sym (pin_pins p₀ s out₀ p (e (get_or good p 0)) (pin_in N j p o))) in
             elim (ℕ_discrete j j₀) [
               | yes q ↦ ap (λ k. e (16 + k)) q ∙ home ∙ ap (made N firsts (λ p. cond (eqb p p₀) (eqb s 1) (e (get_or good p 0)))) (sym q) ∙ same
-              | no d ↦ Re.cell j c d i ∙ made_same _ _ j c (λ p o. rw (ne_eqb p p₀ (λ q. d (pin_one N j j₀ p₀ (rw q at o) o₀))) refl) ∙ same
+              | no d ↦ Re.cell j c d i ∙ made_same (λ p. e (get_or good p 0)) (λ p. cond (eqb p p₀) (eqb s 1) (e (get_or good p 0))) j c (λ p o. rw (ne_eqb p p₀ (λ q. d (pin_one N j j₀ p₀ (rw q at o) o₀))) refl) ∙ same
             ]
 
     pub pin_lane : (e : ℕ → Bool) (flipped : Bool) → Start (width (blocks N low) rel z) m e → Rules N firsts cone z j₀ (λ p. e (get_or good p 0)) e → e (16 + j₀) ≡ xor (g (16 + j₀)) flipped
