@@ -1,3 +1,4 @@
+#![tactic(auto)]
 // The copies of pad buffers in the transformed circuit: each block that is not its input's lowest has its own of those on its way.
 ghost use Rattle.std.specs.Prelude.{◌≡◌, List, ℕ, ◌+◌, ◌≤◌, ◌<◌, length, get_or};
 ghost use Rattle.chip.specs.Netlist.{Netlist, sum_below, all_pins};

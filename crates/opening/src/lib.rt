@@ -1,3 +1,4 @@
+#![tactic(auto)]
 // Opens a netlist file, with which every call begins: refused, or the open chip with its sizes, its shape and its tables.
 ghost use Rattle.std.specs.Prelude.{◌≡◌};
 ghost use Rattle.chip.specs.Replies.{ClassOn, ClassReply};
@@ -12,7 +13,7 @@ use netlist::Reading;
 use structure::{Found, Shape};
 
 // A refusal's number and place, or that the chip is open.
-#[derive(Drop)]
+#[derive(Clone, Copy)]
 pub enum Opening {
     Refused(u8, usize),
     Open,
@@ -21,7 +22,7 @@ pub enum Opening {
 // The answer with all that calls on an open chip need: the kind and the pin count of each cell and the net of each pin, as the
 // file has them; the first pin of each cell and an order of the cells; for each pin the input that it is a branch of and its
 // block; and the outputs that each block reaches. Of a file that is refused they are 0.
-#[derive(Drop)]
+#[derive(Clone, Copy)]
 pub struct Chip {
     pub opening: Opening,
     pub sizes: Sizes,

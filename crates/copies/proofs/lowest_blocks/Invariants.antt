@@ -1,0 +1,22 @@
+use Prim.Native.Nat.{ℕ, ◌-◌, ◌≤◌, ◌<◌}
+use mathlib.Core.Path.{◌≡◌, refl, sym, ◌∙◌}
+use native.Mathlib.Omega.{arith}
+use borrow.Author.Rules.{rules}
+use lib.ListN.{length, length-set}
+use Rattle.chip.specs.Netlist.{Netlist, all_pins}
+use Rattle.chip.specs.Class.{Lowest}
+use Rattle.chip.specs.Inner.Tables.{BranchTable}
+use Rattle.chip.proofs.Blocks.{counted}
+use Rattle.chip.specs.Pads.{branch_of}
+use Rattle.blocks.specs.Labels.{BlockTable}
+use Rattle.copies.proofs.Firsts.{Firsts, firsts_start, firsts_more, first_small, next_is}
+use Rattle.copies.proofs.lowest_blocks.Given as goal
+
+abbrev pub invariant-loop-x : goal.invariant-loop-x
+invariant-loop-x l =
+    (l.x ≤ l.i)
+    × (length l.table ≡ 64)
+    × ((N : Netlist) (low : ℕ → ℕ) → N.inputs ≡ l.i → l.n ≡ all_pins N → BranchTable N l.branches → Lowest N low → BlockTable N low l.block → Firsts N low l.x l.at l.table)
+
+abbrev pub decreases-loop-x : goal.decreases-loop-x
+decreases-loop-x l = l.i - l.x

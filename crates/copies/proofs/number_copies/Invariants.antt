@@ -1,0 +1,20 @@
+use Prim.Native.Nat.{ℕ, ◌-◌, ◌≤◌, ◌<◌}
+use mathlib.Core.Path.{◌≡◌, refl, ap, ◌∙◌}
+use native.Mathlib.Numerals.{add-one}
+use native.Mathlib.Omega.{arith}
+use borrow.Author.Rules.{rules}
+use lib.ListN.{length, get_or, length-set}
+use Rattle.chip.specs.Netlist.{sum_below}
+use Rattle.chip.proofs.Entries.{entry_more}
+use Rattle.copies.proofs.number_copies.Given as goal
+
+abbrev pub invariant-loop-l : goal.invariant-loop-l
+invariant-loop-l l =
+    (l.l ≤ l.m)
+    × (l.count ≤ l.l)
+    × (l.count ≡ sum_below (λ k. get_or l.marks k 0) l.l)
+    × (length l.numbers ≡ 65536)
+    × ((k : ℕ) → k < l.l → get_or l.numbers k 0 ≡ sum_below (λ m. get_or l.marks m 0) k)
+
+abbrev pub decreases-loop-l : goal.decreases-loop-l
+decreases-loop-l l = l.m - l.l
