@@ -1,3 +1,4 @@
+#![tactic(auto)]
 // The fields of a call, from standard input; of a call that has no such field, 0 or empty. After a field that is cut or
 // too long, the call is not good: nothing more is read, and what is left is 0 too.
 ghost use Rattle.io.specs.Counts.{IsPrefixLen};
