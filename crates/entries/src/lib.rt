@@ -1,3 +1,4 @@
+#![tactic(auto)]
 // The lines of a listing: that of the sizes, one for each fault, and the one of a netlist that is refused.
 ghost use Rattle.std.specs.Prelude.{◌≤◌, length};
 
