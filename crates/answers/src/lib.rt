@@ -1,3 +1,4 @@
+#![tactic(auto)]
 // The lines of the program `calls`: for each call its answer, and the whole of the buffer that was lent to it.
 ghost use Rattle.std.specs.Prelude.{ℕ, ◌≤◌, ◌≡◌, List};
 ghost use Rattle.chip.specs.Format.{read_of};
@@ -35,8 +36,7 @@ pub fn read(t: Tables, line: &mut Buffer, used: &mut usize)
     requires { (file : List ℕ) × (t ≡ tables_of (read_of file)) }
     ensures { used.new ≤ 65536 }
 {
-    let reading = t.reading;
-    match reading {
+    match t.reading {
         Reading::Refused(k, p) => {
             lines::refused(line, used, k, p);
         }
