@@ -1,3 +1,4 @@
+#![tactic(auto)]
 // The faults at one cell, its home: fault e < 2 is the cell's net stuck at e, fault 2 + 2 * i + v its pin i stuck at v.
 // Slot 1040 holds zeros and slot 1041 ones.
 ghost use Rattle.std.specs.Prelude.{◌≡◌, false, ℕ, ◌+◌, ◌-◌, ◌*◌, ◌/◌, ◌^◌, ◌≤◌, ◌<◌, length, get_or, set};

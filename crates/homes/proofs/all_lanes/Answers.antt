@@ -1,0 +1,14 @@
+-- After k words all bits of each are set, and at 16 words these are all 1,024 lanes.
+use Rattle.rows.proofs.Fill.{fill_none, fill_more}
+use mathlib.Core.Path.{◌≡◌, refl}
+use native.Mathlib.Omega.{arith}
+use Rattle.homes.proofs.all_lanes.Goals as goal
+
+pub loop-k-init : goal.loop-k-init
+loop-k-init c = (omega arith, fill_none _ _ _)
+
+pub loop-k-preserved : goal.loop-k-preserved
+loop-k-preserved c = let l = c.loop-k in (omega arith, fill_more _ l.k _ _ _ _ _ l.invariant.1 (omega arith) (omega (arith, c.requires)) refl)
+
+pub returns : goal.returns
+returns c = let e : c.loop-k.k ≡ 16 = omega arith in rw e at c.loop-k.invariant.1
