@@ -5,4 +5,4 @@ use native.Mathlib.Omega.{arith}
 use Rattle.events.proofs.low_mark.Goals as goal
 
 pub returns : goal.returns
-returns c = low_mark c.args.bits.now c.args.at c.lowest_bit.result (omega (arith, c.shared_slice_known-1.given (c.args.at / 64))) c.lowest_bit.ensures
+returns c = low_mark c.args.bits.now c.args.at c.lowest_bit.result (omega (arith, c.type_inv.bits (c.args.at / 64))) c.lowest_bit.ensures
