@@ -1,3 +1,4 @@
+#![tactic(auto)]
 // The faults at one home tried in one chunk: the home flipped, the change carried on, the outputs looked at, and all put back.
 ghost use Rattle.std.specs.Prelude.{◌≡◌, ℕ, ◌+◌, ◌*◌, ◌≤◌, ◌<◌, length, get_or};
 ghost use Rattle.events.specs.Events.{Chip, Marks, Good};
