@@ -1,3 +1,4 @@
+#![tactic(auto)]
 // The words of the 16 chunks from chunk q on: those of the variables, the constants, and the good words of the cells.
 ghost use Rattle.std.specs.Prelude.{◌≡◌, List, ℕ, ◌+◌, ◌-◌, ◌*◌, ◌^◌, ◌≤◌, ◌<◌, length, get_or};
 ghost use Rattle.rows.specs.Rows.{Filled};
