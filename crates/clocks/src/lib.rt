@@ -1,3 +1,4 @@
+#![tactic(auto)]
 // Sets a pattern on the clocks of a play, and reads it back.
 ghost use Rattle.chip.specs.Replies.{SetOn, SetReply, ReadOn, ReadReply};
 ghost use Rattle.opening.specs.Open.{netlist_of, IsOpen};
