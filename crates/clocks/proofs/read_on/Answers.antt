@@ -10,7 +10,7 @@ use Rattle.plays.proofs.Parts.{clock_up}
 use Rattle.clocks.proofs.Answers.{read_13, read_11, read_14, read_18, read_19, read_15, read_done}
 use Rattle.clocks.proofs.Window.{window_long, window_bits, window_read}
 use Rattle.clocks.proofs.read_on.Goals as goal
-use Rattle.clocks.proofs.read_on.Goals.{Else-pattern-s}
+use Rattle.clocks.proofs.read_on.Goals.{Else-pattern-s, then-clock-s-via-then-clock-s, then-clock-s-via-else-clock-s+then-n-clock}
 
 pub returns-then-z-output : goal.returns-then-z-output
 returns-then-z-output c = read_13 _ c.requires _ _ _ _ c.if-z-output.true
@@ -25,29 +25,29 @@ pub returns-then-n-gt1024 : goal.returns-then-n-gt1024
 returns-then-n-gt1024 c = read_14 _ c.requires _ _ _ _ (omega (arith, c.if-z-output.false)) c.if-s-eq1.false (c.clock_count-n.ensures.none c.if-n-gt1024.true)
 
 pub returns-then-k-play : goal.returns-then-k-play
-returns-then-k-play c = read_18 _ c.requires _ _ _ _ (omega (arith, c.if-z-output.left)) c.if-s-eq1.left _ (c.clock_count-n.ensures.found (omega (arith, c.if-n-gt1024.false))) _ (c.first_above_one-k.ensures.found c.if-k-play.true)
+returns-then-k-play c = read_18 _ c.requires _ _ _ _ (omega (arith, c.if-z-output.false)) c.if-s-eq1.false _ (c.clock_count-n.ensures.found (omega (arith, c.if-n-gt1024.false))) _ (c.first_above_one-k.ensures.found c.if-k-play.true)
 
 pub returns-then-clock-s : goal.returns-then-clock-s
 returns-then-clock-s c =
-    read_19 _ c.requires _ _ _ _ (omega (arith, c.if-z-output.left)) c.if-s-eq1.left _ (c.clock_count-n.ensures.found (omega (arith, c.if-n-gt1024.left))) (c.first_above_one-k.ensures.none (omega (arith, c.if-k-play.false)))
-    (⊎_elim (λ w. inl w.taken) (λ w. inr (leb-true _ _ w.1.taken)) c.if-clock-s.branch)
+    read_19 _ c.requires _ _ _ _ (omega (arith, c.if-z-output.false)) c.if-s-eq1.false _ (c.clock_count-n.ensures.found (omega (arith, c.if-n-gt1024.false))) (c.first_above_one-k.ensures.none (omega (arith, c.if-k-play.false)))
+    (elim c.then-clock-s.branch [ then-clock-s-via-then-clock-s w ↦ inl w.if-clock-s.true | then-clock-s-via-else-clock-s+then-n-clock w ↦ inr w.if-n-clock.true ])
 
 pub returns-then-pattern-s : goal.returns-then-pattern-s
 returns-then-pattern-s c =
-    read_15 _ c.requires _ _ _ _ (omega (arith, c.if-z-output.left)) c.if-s-eq1.left _ (c.clock_count-n.ensures.found (omega (arith, c.if-n-gt1024.left))) (c.first_above_one-k.ensures.none (omega (arith, c.if-k-play.left)))
+    read_15 _ c.requires _ _ _ _ (omega (arith, c.if-z-output.false)) c.if-s-eq1.false _ (c.clock_count-n.ensures.found (omega (arith, c.if-n-gt1024.false))) (c.first_above_one-k.ensures.none (omega (arith, c.if-k-play.false)))
     (omega (arith, c.if-clock-s.false)) (leb-false _ _ c.if-n-clock.false-raw) c.if-pattern-s.true
 
 -- the play has the clock, and the window begins in it
-clock_there : (f : Else-pattern-s) → suc f.args.clock * f.args.t1.sizes.inputs
+clock_there : (f : Else-pattern-s) → suc f.args.clock * f.args.opened.sizes.inputs
     ≤ length f.args.play.now
 clock_there f =
     let u : f.args.clock < f.clock_count-n.result = leb-false _ _ f.if-n-clock.false-raw in
-    omega (arith, mul-le-mul_right f.args.t1.sizes.inputs u, (f.clock_count-n.ensures.found (omega (arith, f.if-n-gt1024.left))).long)
+    omega (arith, mul-le-mul_right f.args.opened.sizes.inputs u, (f.clock_count-n.ensures.found (omega (arith, f.if-n-gt1024.false))).long)
 
-begins : (f : Else-pattern-s) → (f.args.clock - f.args.t1.shape.depth) * f.args.t1.sizes.inputs
+begins : (f : Else-pattern-s) → (f.args.clock - f.args.opened.shape.depth) * f.args.opened.sizes.inputs
     ≤ length f.args.play.now
 begins f =
-    omega (arith, clock_up f.args.t1.sizes.inputs (f.args.clock - f.args.t1.shape.depth) (suc f.args.clock) (omega arith), clock_there f)
+    omega (arith, clock_up f.args.opened.sizes.inputs (f.args.clock - f.args.opened.shape.depth) (suc f.args.clock) (omega arith), clock_there f)
 
 pub overflow_mul-from : goal.overflow_mul-from
 overflow_mul-from c = omega (arith, begins (goal.at.overflow_mul-from c).Else-pattern-s, c.well_formed)
@@ -57,11 +57,11 @@ slice_bounds-read_play-count c = omega (arith, begins (goal.at.slice_bounds-read
 
 pub read_play-requires : goal.read_play-requires
 read_play-requires c =
-    let late : c.args.t1.shape.depth ≤ c.args.clock = omega (arith, c.if-clock-s.false) in record {
-      by_index = ((_, c.requires.ready), c.if-s-eq1.left);
+    let late : c.args.opened.shape.depth ≤ c.args.clock = omega (arith, c.if-clock-s.false) in record {
+      by_index = ((_, c.requires.ready), c.if-s-eq1.false);
       output_lt_outputs = (
-        omega (arith, c.if-z-output.left),
-        window_bits _ _ _ c.args.play.now late (clock_there (goal.at.read_play-requires c).Else-pattern-s) (c.first_above_one-k.ensures.none (omega (arith, c.if-k-play.left))),
+        omega (arith, c.if-z-output.false),
+        window_bits _ _ _ c.args.play.now late (clock_there (goal.at.read_play-requires c).Else-pattern-s) (c.first_above_one-k.ensures.none (omega (arith, c.if-k-play.false))),
         window_long _ _ _ c.args.play.now late (clock_there (goal.at.read_play-requires c).Else-pattern-s),
         omega (arith, c.if-pattern-s.false),
       );
@@ -69,6 +69,6 @@ read_play-requires c =
 
 pub returns : goal.returns
 returns c =
-    read_done _ c.requires _ _ _ _ (omega (arith, c.if-z-output.left)) c.if-s-eq1.left _ (c.clock_count-n.ensures.found (omega (arith, c.if-n-gt1024.left))) (c.first_above_one-k.ensures.none (omega (arith, c.if-k-play.left)))
+    read_done _ c.requires _ _ _ _ (omega (arith, c.if-z-output.false)) c.if-s-eq1.false _ (c.clock_count-n.ensures.found (omega (arith, c.if-n-gt1024.false))) (c.first_above_one-k.ensures.none (omega (arith, c.if-k-play.false)))
     (omega (arith, c.if-clock-s.false)) (leb-false _ _ c.if-n-clock.false-raw) _ (omega (arith, c.if-pattern-s.false))
-    (λ low L. window_read c.requires.ready c.if-s-eq1.left low L (omega (arith, c.if-clock-s.false)) (c.read_play.ensures low L))
+    (λ low L. window_read c.requires.ready c.if-s-eq1.false low L (omega (arith, c.if-clock-s.false)) (c.read_play.ensures low L))

@@ -17,21 +17,21 @@ pub returns-then-pattern-s : goal.returns-then-pattern-s
 returns-then-pattern-s c = set_14 _ c.requires _ _ _ (omega (arith, c.if-z-output.false)) c.if-s-eq1.false c.if-pattern-s.true
 
 pub returns-then-k-pattern : goal.returns-then-k-pattern
-returns-then-k-pattern c = set_18 _ c.requires _ _ _ (omega (arith, c.if-z-output.left)) c.if-s-eq1.left c.if-pattern-s.false _ (c.first_above_one-k.ensures.found c.if-k-pattern.true)
+returns-then-k-pattern c = set_18 _ c.requires _ _ _ (omega (arith, c.if-z-output.false)) c.if-s-eq1.false c.if-pattern-s.false _ (c.first_above_one-k.ensures.found c.if-k-pattern.true)
 
 pub overflow_mul-long : goal.overflow_mul-long
 overflow_mul-long c =
-    let h : c.args.t1.shape.depth + 1 ≤ 256 = omega (arith, c.requires.ready.shaped.shallow) in
-    let l : c.args.t1.sizes.inputs ≤ 64 = c.requires.ready.limits.few_inputs in
+    let h : c.args.opened.shape.depth + 1 ≤ 256 = omega (arith, c.requires.ready.shaped.shallow) in
+    let l : c.args.opened.sizes.inputs ≤ 64 = c.requires.ready.limits.few_inputs in
     omega (arith, mul-le-mul h l)
 
 pub returns-then-play-long : goal.returns-then-play-long
-returns-then-play-long c = rw (add-one c.args.t1.shape.depth) (set_15 _ c.requires _ _ _ (omega (arith, c.if-z-output.left)) c.if-s-eq1.left c.if-pattern-s.left (c.first_above_one-k.ensures.none (omega (arith, c.if-k-pattern.false))) (rw (add-one c.args.t1.shape.depth) at c.if-play-long.true))
+returns-then-play-long c = rw (add-one c.args.opened.shape.depth) (set_15 _ c.requires _ _ _ (omega (arith, c.if-z-output.false)) c.if-s-eq1.false c.if-pattern-s.false (c.first_above_one-k.ensures.none (omega (arith, c.if-k-pattern.false))) (rw (add-one c.args.opened.shape.depth) at c.if-play-long.true))
 
 pub set_play-requires : goal.set_play-requires
-set_play-requires c = record { by_index = ((_, c.requires.ready), c.if-s-eq1.left); output_lt_outputs = (omega (arith, c.if-z-output.left), omega (arith, c.if-pattern-s.left), c.first_above_one-k.ensures.none (omega (arith, c.if-k-pattern.left)), rw (add-one c.args.t1.shape.depth) at c.if-play-long.false) }
+set_play-requires c = record { by_index = ((_, c.requires.ready), c.if-s-eq1.false); output_lt_outputs = (omega (arith, c.if-z-output.false), omega (arith, c.if-pattern-s.false), c.first_above_one-k.ensures.none (omega (arith, c.if-k-pattern.false)), rw (add-one c.args.opened.shape.depth) at c.if-play-long.false) }
 
 pub returns : goal.returns
 returns c =
-    rw (add-one c.args.t1.shape.depth) (set_done _ c.requires _ _ _ (omega (arith, c.if-z-output.left)) c.if-s-eq1.left c.if-pattern-s.left _ (c.first_above_one-k.ensures.none (omega (arith, c.if-k-pattern.left)))
-    (rw (add-one c.args.t1.shape.depth) at c.if-play-long.false) c.set_play.ensures)
+    rw (add-one c.args.opened.shape.depth) (set_done _ c.requires _ _ _ (omega (arith, c.if-z-output.false)) c.if-s-eq1.false c.if-pattern-s.false _ (c.first_above_one-k.ensures.none (omega (arith, c.if-k-pattern.false)))
+    (rw (add-one c.args.opened.shape.depth) at c.if-play-long.false) c.set_play.ensures)
