@@ -94,7 +94,7 @@ count_more k key heads s x C e l f =
     record {
       long = simp length-set C.long;
       at = λ y h. rw add-one (elim (ℕ_discrete y s) [
-        | yes q ↦ rw q (get_or-set_same heads s x 0 (omega (arith, C.long)) ∙ omega (arith, f, C.at s l, same_next key s k e))
+        | yes q ↦ ap (λ t. get_or (set heads s x) t 0) q ∙ get_or-set_same heads s x 0 (omega (arith, C.long)) ∙ omega (arith, f, C.at y h, ap (λ t. get_or heads t 0) q, same_next key y k (q ∙ e))
         | no g ↦ get_or-set_other heads s y x 0 g ∙ C.at y h ∙ sym (same_other key y k (λ q. g (q ∙ sym e)))
       ]);
     }

@@ -1,3 +1,4 @@
+#![tactic(auto)]
 // The tables of a chip that the events run on: the outputs that each place reaches, and the places that read each block and each cell.
 // Head s stands for the readers of block s, or those of cell s - 4160: entries heads[s] up to heads[s + 1] of the readers, which are places.
 ghost use Rattle.std.specs.Prelude.{◌≡◌, ℕ, ◌+◌, ◌≤◌, ◌<◌, length, get_or};
