@@ -1,3 +1,4 @@
+#![tactic(auto)]
 // Checks a play against a fault: the first clock from the depth on, and on it the first output, at which the fault is shown.
 ghost use Rattle.chip.specs.Faults.{FaultIn, stuck, IsPlay};
 ghost use Rattle.chip.specs.Replies.{CheckOn, CheckReply};

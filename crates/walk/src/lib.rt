@@ -1,3 +1,4 @@
+#![tactic(auto)]
 // What a walk over the outputs that a fault's site reaches answers, and how wide each output is.
 ghost use Rattle.std.specs.Prelude.{◌≡◌, ◌≤◌, ◌<◌};
 ghost use Rattle.walk.specs.Walk.{width_of};
