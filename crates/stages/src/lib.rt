@@ -1,3 +1,4 @@
+#![tactic(auto)]
 // What a group of outputs with the same blocks behind them is tried on, and the outputs left to the faults of a cell.
 ghost use Rattle.std.specs.Prelude.{◌≡◌, ◌+◌, ◌≤◌, ◌<◌, length};
 ghost use Rattle.stages.specs.Stage.{Covers};
