@@ -1,3 +1,4 @@
+#![tactic(auto)]
 // Writes the transformed circuit: each block is an input with pad buffers of its own, each DFF a BUF, each DFFN a NOT.
 ghost use Rattle.std.specs.Prelude.{◌≡◌, ◌⊎◌, cond, List, ℕ, ◌+◌, ◌*◌, ◌≤◌, ◌<◌, ltb, length, get_or};
 ghost use Rattle.chip.specs.Netlist.{Netlist, all_pins};

@@ -8,7 +8,9 @@ pick-gates-requires c =
     (o.limits.few_cells, λ k l. omega (arith, o.limits.few_cells, o.shaped.ordered.cell k l))
 
 pub pick-flops-requires : goal.pick-flops-requires
-pick-flops-requires c = pick-requires c κs
+pick-flops-requires c =
+    let o = c.requires.fact.ready in
+    (o.limits.few_cells, λ k l. omega (arith, o.limits.few_cells, o.shaped.ordered.cell k l))
 
 pub run_clocks-requires : goal.run_clocks-requires
 run_clocks-requires c =
