@@ -1,6 +1,6 @@
 -- The outputs in groups with the same blocks behind them: what is known of a fault once some groups are tried.
 -- Shows z m says that pattern m shows it at output z, which has size z patterns. It is looked for at the outputs of `whole`; those of `todo` are still to come.
-use Rattle.std.specs.Prelude.{ℕ, ◌-◌, ◌<◌, ◌≡◌, ◌⊎◌, true, false, List, get_or}
+use Rattle.std.specs.Prelude.{ℕ, ◌<◌, ◌≡◌, ◌⊎◌, true, false, List, get_or}
 use Rattle.chip.specs.Search.{digit}
 use Rattle.slots.specs.Slots.{rel_of}
 

@@ -1,3 +1,4 @@
+#![tactic(auto)]
 // Words of outputs: those that each site reaches, those that are wide, those at which a fault is looked for, and those with the same blocks
 // behind them; and the walk of a fault, from what was found.
 ghost use Rattle.std.specs.Prelude.{◌≡◌, true, List, ℕ, ◌+◌, ◌≤◌, ◌<◌, length, get_or};
