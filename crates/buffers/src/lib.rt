@@ -1,3 +1,4 @@
+#![tactic(auto)]
 // The faults in pad buffers, each a run of its own.
 // Fault 2 * site + v: the nets of inputs and cells are the first sites, then come the pins, the last ones those of the outputs.
 ghost use Rattle.std.specs.Prelude.{◌≡◌, List, ℕ, ◌+◌, ◌-◌, ◌*◌, ◌/◌, ◌≤◌, ◌<◌, length, get_or};
