@@ -1,3 +1,4 @@
+#![tactic(auto)]
 // The place in a play of each variable of a pattern, worked out once for a chip, and the play of a pattern by these places.
 ghost use Rattle.std.specs.Prelude.{◌≡◌, ◌≢◌, true, List, ℕ, suc, ◌+◌, ◌*◌, ◌^◌, ◌≤◌, ◌<◌, length, get_or};
 ghost use Rattle.chip.specs.Inner.Tables.{sized};
