@@ -129,7 +129,7 @@ module _ (N : Netlist) (low : ℕ → ℕ) (b : ℕ) (branches block lowest mark
     not_here g j e = elim (dec_lt (source N (N.net p)) N.inputs) [
       | yes s ↦
           let o : home N (blocks N low) p ≡ (blocks N low).first (source N (N.net p)) = home_pad N (blocks N low) p (into g s) in
-          first_none N (blocks N low) (home N (blocks N low) p) j (ap (λ a. (blocks N low).first ((blocks N low).input a)) o ∙ ap (blocks N low).first (C.own_IsFirst (source N (N.net p)) s) ∙ sym o)
+          first_none N (blocks N low) (home N (blocks N low) p) j (ap (λ a. (blocks N low).first ((blocks N low).input a)) o ∙ ap (blocks N low).first (C.own_first (source N (N.net p)) s) ∙ sym o)
       | no f ↦ not_copied N S R (blocks N low) (home N (blocks N low) p) j (λ s. f (rw e s))
     ]
 

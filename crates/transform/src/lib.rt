@@ -20,7 +20,7 @@ use copies::COPIES;
 use opening::{Chip, Opening};
 
 // How many there are: of the netlist's inputs, cells, outputs and pins, of its blocks, and of the copies that these have.
-#[derive(Drop)]
+#[derive(Clone, Copy)]
 struct Totals {
     inputs: usize,
     cells: usize,

@@ -1,0 +1,27 @@
+use Prim.Native.Nat.{ℕ, ◌+◌, ◌*◌, ◌-◌, ◌/◌, ◌%◌, ◌≤◌, ◌<◌}
+use mathlib.Core.Path.{◌≡◌, refl, ap, ◌∙◌}
+use mathlib.Core.Logic.{◌⊎◌, inl, inr, ⊎_elim, ◌≢◌}
+use mathlib.Core.List.{List}
+use native.Mathlib.Omega.{arith}
+use borrow.Author.Rules.{rules}
+use lib.ListN.{length, get_or, length-set}
+use lib.Seq.{get_or-set_other}
+use Rattle.chip.specs.Netlist.{Netlist, first_pin, out_pin, all_pins}
+use Rattle.chip.specs.Class.{blocks}
+use Rattle.chip.specs.Transformed.{net_for}
+use Rattle.chip.specs.Inner.Tables.{FirstPins}
+use Rattle.chip.proofs.Basics.{pin_in, first_pin_lem}
+use Rattle.transform.specs.Inner.New.{net_of, Totalled, CopyNets}
+use Rattle.transform.proofs.New.{room_of, cell_marked, number_low, copy_more, copy_skip}
+use Rattle.transform.proofs.copy_nets.Given as goal
+
+abbrev pub invariant-loop-l : goal.invariant-loop-l
+invariant-loop-l l =
+    (l.l ≤ 1024 * l.b)
+    × (length l.table ≡ 4096)
+    × ((kinds counts : List ℕ) (low : ℕ → ℕ) (branches block lowest : List ℕ) → FirstPins (net_of l.t kinds counts l.nets) l.firsts → Totalled l.t kinds counts l.nets low branches block lowest l.marks l.numbers
+    → CopyNets (net_of l.t kinds counts l.nets) (blocks (net_of l.t kinds counts l.nets) low) l.l l.table)
+    × ((p : ℕ) → (p < l.first) ⊎ (l.first + l.t.copies ≤ p) → get_or l.table p 0 ≡ get_or l.initial.table p 0)
+
+abbrev pub decreases-loop-l : goal.decreases-loop-l
+decreases-loop-l l = 1024 * l.b - l.l
