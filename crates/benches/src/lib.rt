@@ -1,3 +1,4 @@
+#![tactic(auto)]
 // The tables that a group of outputs is tried on: those of the chip, which no group changes, and those of the group.
 ghost use Rattle.std.specs.Prelude.{◌≡◌, ◌≢◌, List, ℕ, ◌+◌, ◌-◌, ◌≤◌, ◌<◌, length, get_or};
 ghost use Rattle.chip.specs.Inner.Limits.{InLimits};
