@@ -1,3 +1,4 @@
+#![tactic(auto)]
 // All homes of a chip tried in one chunk. Fault 2 * site + v: the nets of i inputs and c cells are the first sites, then come the pins.
 // left has for each fault the outputs at which it is still looked for, groups for each place the outputs left to its faults, or more; a place whose word is 0 is passed over.
 ghost use Rattle.std.specs.Prelude.{◌≡◌, ℕ, ◌+◌, ◌*◌, ◌≤◌, ◌<◌, length, get_or};
