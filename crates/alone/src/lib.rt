@@ -1,3 +1,4 @@
+#![tactic(auto)]
 // The faults that are runs of their own, or looked at without one.
 // Fault 2 * site + v: the nets of inputs and cells are the first sites, then come the pins, the last ones those of the outputs.
 ghost use Rattle.std.specs.Prelude.{◌≡◌, ℕ, ◌+◌, ◌-◌, ◌*◌, ◌≤◌, ◌<◌, length, get_or};
