@@ -1,3 +1,4 @@
+#![tactic(auto)]
 // The outputs in groups with the same blocks behind them, each group over the chunks of its patterns.
 ghost use Rattle.std.specs.Prelude.{◌≡◌, ℕ, ◌+◌, ◌*◌, ◌<◌, Bool, List};
 ghost use Rattle.chip.specs.Inner.Tables.{tabled};
