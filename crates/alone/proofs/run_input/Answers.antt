@@ -20,7 +20,6 @@ run-requires c =
           B.2;
     }
 
--- a rewrite does not see through a named step, so one step here is written out: v is where the variables are set
 pub returns : goal.returns
 returns c =
     let B = c.requires.goods_len in

@@ -28,7 +28,7 @@ overflow_add-home-3 c =
     let f = c.wide-a.ensures ∙ ap (λ x. get_or (firsts_of c.args.tables) x 0) c.wide-j.ensures in
     omega (arith, f, (H.pins c.args.p c.requires.p_lt_cells.0).pins, A.pins_long, A.few_inputs, H.few)
 
--- a rewrite does not see through a named step, so the steps here are written out: k is where the pins are known, j where the cell is, and s the start
+-- w, f and n say the cell's number, first pin and pin count in the words of the tables
 pub try_home-requires : goal.try_home-requires
 try_home-requires c =
     let w = c.wide-j.ensures in
@@ -50,7 +50,7 @@ try_home-requires c =
       left_len = (L.long_left, L.long_best, L.long_pat);
     }
 
--- a rewrite does not see through a named step, so the steps here are written out: h is where the home was tried, and the others are as above
+-- the same equations turn what the call ensures into the words of the tables
 pub returns : goal.returns
 returns c =
     let w = c.wide-j.ensures in
