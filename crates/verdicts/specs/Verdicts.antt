@@ -1,5 +1,5 @@
 -- The answers for all faults of a chip at once, fault f = 2 * s + v for site s stuck at v: the nets are the first sites, then come the pins.
-use Rattle.std.specs.Prelude.{ℕ, ◌+◌, ◌-◌, ◌*◌, ◌≤◌, ◌<◌, ◌≡◌, true, List, get_or}
+use Rattle.std.specs.Prelude.{ℕ, ◌+◌, ◌*◌, ◌≤◌, ◌<◌, ◌≡◌, true, List, get_or}
 use Rattle.chip.specs.Inner.Tables.{tabled}
 use Rattle.chip.specs.Class.{Lowest}
 use Rattle.chip.specs.Search.{digit}

@@ -1,3 +1,4 @@
+#![tactic(auto)]
 // The answers for many faults of a chip at once, from one search: fault 2 * s + v is site s stuck at v; the nets are the first sites, then come the pins.
 ghost use Rattle.std.specs.Prelude.{◌≡◌, List, ◌≢◌, ℕ, ◌+◌, ◌-◌, ◌*◌, ◌^◌, ◌≤◌, ◌<◌, length, get_or};
 ghost use Rattle.chip.specs.Inner.Tables.{sized};
