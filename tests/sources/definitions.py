@@ -9,7 +9,7 @@ from sources import tree
 WORD = re.compile(r"[^\s(){};,.λ]+")
 HEAD = re.compile(r"^(?:abbrev |unfoldable )?pub (?:(?:record|data) )?([^\s:]+)")
 MEMBER = re.compile(r"^  (?:pub )?([^\s:]+) :")
-IMPORT = re.compile(r"^(?:ghost )?use Rattle·(\w+)(?:·specs)?\.specs(?:\.specs)?\.([\w.·-]+?)(?:\.\{(.*?)\})?(?: as (\S+?))?;?$")
+IMPORT = re.compile(r"^(?:ghost )?use Rattle\.(\w+)\.specs\.([\w.]+?)(?:\.\{(.*?)\})?(?: as (\S+?))?;?$")
 
 
 @dataclass(frozen=True)
@@ -41,7 +41,7 @@ def imports_of(text, module):
         if not found:
             continue
         crate, path, names, alias = found.groups()
-        path = path.replace(".the-variants", "")
+        path = path.removesuffix(".TheVariants")
         if alias:
             module.aliases[alias] = (crate, path)
         for name in (names or "").split(","):

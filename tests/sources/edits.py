@@ -1,15 +1,13 @@
 """The must-fail edits. A file has one edit, or several of different functions, each behind a line `## NAME: what it shows`.
-An edit changes functions, or puts versions of a function before it, each with a name of its own. A control, behind a line
-`## control NAME: what it shows`, has versions in the form of the others with the right answer, which must be proved."""
+An edit changes functions, or puts versions of a function before it, each with a name of its own; one of a definition changes none."""
 
 import re
-from collections import Counter
 from dataclasses import dataclass
 
 from sources import tree
 from sources.functions import START, without_comments
 
-PART = re.compile(r"^## (control )?(\w+): (.+)$", re.M)
+PART = re.compile(r"^## (\w+): (.+)$", re.M)
 
 
 @dataclass(frozen=True)
@@ -19,7 +17,6 @@ class Edit:
     name: str
     says: str
     changes: tuple  # the old texts, each with the new one
-    control: bool
 
 
 def edits_of(crate):
@@ -28,21 +25,15 @@ def edits_of(crate):
         text = path.read_text()
         parts = PART.split(text)[1:]
         if not parts:
-            parts = [None, path.stem, text.splitlines()[0].removeprefix("# ") if text.startswith("# ") else "", text]
-        for mark, name, says, body in zip(parts[::4], parts[1::4], parts[2::4], parts[3::4]):
+            parts = [path.stem, text.splitlines()[0].removeprefix("# ") if text.startswith("# ") else "", text]
+        for name, says, body in zip(parts[::3], parts[1::3], parts[2::3]):
             changes = tuple(re.findall(r"^old: (.*)\nnew: ?(.*)$", body, re.M))
-            yield Edit(crate, path.stem, name, says, changes, mark is not None)
-
-
-def log_of(edit):
-    """What the prover said of the file that an edit stands in."""
-    path = tree.ROOT / "target" / "must-fail" / edit.crate / edit.file / ".log"
-    return path.read_text() if path.exists() else ""
+            yield Edit(crate, path.stem, name, says, changes)
 
 
 def functions_edited(edit):
-    """The functions that an edit adds, or whose code it changes, each with the number of its changes."""
-    found = Counter()
+    """The functions that an edit adds, or whose code it changes."""
+    found = set()
     for path in tree.files(edit.crate, "src", "rt"):
         text = without_comments(path.read_text())
         starts = [(start.start(), start.group(2)) for start in START.finditer(text)]
@@ -53,29 +44,26 @@ def functions_edited(edit):
     return found
 
 
-def own_needs(edit):
-    """The needs of each function that the log has refused, in its order, each with what is said of it; a function that is refused
-    only because one that it calls is has none."""
-    log = log_of(edit)
+def files_of_edits():
+    """The files of edits, as `rt ci` names them, each with its edits."""
     found = {}
-    for name, need, said in re.findall(r"/proofs/(\w+)/Proof\.antt:\d+:\d+: error: `([^`]*)`: (.*)", log):
-        if need != name.replace("_", "-") + "-spec":
-            found.setdefault(name, []).append((need, said))
-    for name, needs in re.findall(rf"^fn {edit.crate}::(\w+): no proof: .*`search` does not close ((?:`[^`]*`(?:, )?)+)", log, re.M):
-        found.setdefault(name, []).extend((need, "") for need in re.findall(r"`([^`]*)`", needs))
+    for crate in tree.listed():
+        for edit in edits_of(crate):
+            found.setdefault(f"{crate}/{edit.file}.edit", []).append(edit)
     return found
 
 
-def bites(needs, changes):
-    """Whether a function is refused first at what it ensures or at what a function that it calls asks for, at what it ensures as
-    often as it was changed, and no place that its proof names has gone."""
-    first = needs[0][0] if needs else ""
-    ensured = {need for need, _ in needs if re.fullmatch(r"returns(?:-\d+)?", need)}
-    gone = any("can be named from here" in said or "has no field" in said for _, said in needs)
-    asked = re.fullmatch(r"[a-z0-9-]+-requires(?:-\d+)?", first) is not None
-    return (first in ensured or asked) and len(ensured) >= changes and not gone
+def tried(log):
+    """What `rt ci` printed of each file of edits that it tried."""
+    return dict(re.findall(r"^rt: must-fail (\S+?): (.*)$", log, re.M))
 
 
-def proved(edit):
-    """The functions that the log has proved."""
-    return set(re.findall(rf"^fn {edit.crate}::(\w+): proved$", log_of(edit), re.M))
+def is_refused(said):
+    """Whether the prover refused the changed code, and did not only miss what a proof file names, or come to a limit."""
+    return re.match(r"refused, as it must be(?:: |$)", said) is not None
+
+
+def number_refused(log):
+    """How many files of edits `rt ci` counts as refused, now or by an earlier run; nothing if it passed not all, or some are bad."""
+    found = re.search(r"^rt: ok; .*; must-fail edits: (\d+) refused; ", log, re.M)
+    return found and int(found.group(1))

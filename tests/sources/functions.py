@@ -9,7 +9,7 @@ from sources import tree
 
 START = re.compile(r"^(pub )?fn (\w+)(?:<'\w+(?:, '\w+)*>)?\(", re.M)
 OPEN = re.compile(r"^// Open: (.+?): (.+)\.$")
-CLAUSE = re.compile(r"^    (requires|ensures) \{ (.*?) \}$", re.M | re.S)
+CLAUSE = re.compile(r"^    (requires|ensures) (?:\w+ )?\{ (.*?) \}$", re.M | re.S)
 
 
 @dataclass(frozen=True)

@@ -73,35 +73,36 @@ def all_files():
             for path in tree.files(crate, folder, ending)]
 
 
-def module_paths(crate, folder, path):
-    """The two names of a module: for its own crate, and for others."""
+def module_path(crate, folder, path):
+    """The name of a module."""
     name = str(path.relative_to(tree.CRATES / crate / folder))[:-len(".antt")].replace("/", ".")
-    return {f"Rattle·{crate}·{folder}.{folder}.{name}", f"Rattle·{crate}.{folder}.{name}"}
+    return f"Rattle.{crate}.{folder}.{name}"
 
 
-def used_elsewhere(name, modules, path, extra=()):
-    """Whether another file takes the name from one of the modules and has it in its body."""
+def used_elsewhere(name, module, path, extra=()):
+    """Whether another file takes the name from the module and has it in its body."""
     wanted = {name, *extra}
     for other in all_files():
         if other == path:
             continue
-        taken = set().union(*(imports(other).get(module, set()) for module in modules))
+        taken = imports(other).get(module, set())
         if (taken & wanted or "*" in taken) and words(other) & wanted:
             return True
     return False
 
 
 def unused_lemmas(named):
-    """The lemmas that neither their file nor another uses, and that are no theorem that a document names there."""
+    """The lemmas that neither their file nor another uses, and that are no theorem that a document names there and no answer to
+    what the prover asks of a function, which is `goal.` and its name."""
     for crate in tree.listed():
         for path in tree.files(crate, "proofs", "antt"):
             lines = body(path)
             for name, public, start, end in lemmas_of(path):
-                if (name, path) in named or name.endswith("-spec"):
+                if (name, path) in named or lines[start].endswith(f" : goal.{name}"):
                     continue
                 rest = lines[:start] + lines[end:]
                 here = any(name in WORD.findall(line) for line in rest)
-                if not here and not (public and used_elsewhere(name, module_paths(crate, "proofs", path), path)):
+                if not here and not (public and used_elsewhere(name, module_path(crate, "proofs", path), path)):
                     yield name, path
 
 
@@ -112,8 +113,7 @@ def unused_definitions(book):
             others = (other.text for other in module.definitions if other is not definition)
             if any(definition.name in WORD.findall(text) for text in others):
                 continue
-            modules = module_paths(crate, "specs", definition.path)
-            if not used_elsewhere(definition.name, modules, definition.path, definition.members):
+            if not used_elsewhere(definition.name, module_path(crate, "specs", definition.path), definition.path, definition.members):
                 yield definition.name, definition.path
 
 

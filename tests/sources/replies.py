@@ -88,7 +88,7 @@ def guard_negates(book):
     step = book.find("chip", "Refusals", "Step")
     cases = dict(re.findall(r"^  (\S+) : (.*)$", step.text, re.M))
     return cases == {"refuses": "{p : ℕ} → When p → Step When refuse Rest (refuse p)",
-                     "goes-on": "{a : A} → ((p : ℕ) → ¬ When p) → Rest a → Step When refuse Rest a"}
+                     "goes_on": "{a : A} → ((p : ℕ) → ¬ When p) → Rest a → Step When refuse Rest a"}
 
 
 def has_buffer(definition):
@@ -101,7 +101,7 @@ def uniqueness(definition):
     path = tree.CRATES / THEOREMS[0] / "proofs" / f"{THEOREMS[1]}.antt"
     lines = path.read_text().splitlines()
     for at, line in enumerate(lines):
-        found = re.match(r"pub (one-[\w-]+-reply) : (.*)", line)
+        found = re.match(r"pub (one_\w+_reply) : (.*)", line)
         if not found:
             continue
         rest = [other.strip() for other in lines[at + 1:at + 3] if other.lstrip().startswith("→")]
