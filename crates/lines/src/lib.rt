@@ -9,7 +9,6 @@ pub const BUFFER: usize = 65536;
 pub type Buffer = [u8; BUFFER];
 
 // Writes the bytes that wait. None waits afterwards.
-// Open: whether the write failed: what a write does is outside the program.
 pub fn finish(line: &[u8], used: &mut usize)
     ensures { used.new ≡ 0 }
 {

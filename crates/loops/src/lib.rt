@@ -62,6 +62,7 @@ fn on_loop(i: usize, c: usize, firsts: &Firsts, nets: &Nets, own: usize) -> bool
 }
 
 // The lowest net that reaches itself, of a netlist in which some net does and none below that of cell `from`.
+// Open: the answer where no net reaches itself, or one below that of cell `from` does, and for the tables of no netlist: that there is a loop from there on is the caller's to know.
 pub fn lowest_on_loop(i: usize, c: usize, firsts: &Firsts, nets: &Nets, from: usize) -> usize
     requires { Wired i c firsts.now nets.now }
     ensures { (o : ℕ) (kinds counts : List ℕ) → FirstPins (tabled i c o kinds counts nets.now) firsts.now → LoopFrom (tabled i c o kinds counts nets.now) from → When9 (tabled i c o kinds counts nets.now) result }

@@ -56,6 +56,7 @@ pub fn wide_outputs(o: usize, widths: &[u16]) -> u64
 }
 
 // The lowest of the o outputs of the word that is wide, or o.
+// Open: the answer for a word that is not that of the wide outputs: that it is that is the caller's to know.
 pub fn first_wide(o: usize, outs: u64, wides: u64) -> usize
     requires { o ≤ 64 }
     ensures { (b : ℕ) (reached widths : List ℕ) → Widths o b reached widths → WideWord o widths wides → TooWide o b outs reached result }
@@ -104,6 +105,7 @@ fn part(g: u64, word: u64, z: usize) -> u64
 }
 
 // Outputs with the same of the b blocks behind them as output z.
+// Open: outputs with the same blocks that it leaves out: one that is left out is tried in a group of its own, which costs work and no answer.
 pub fn group_of(z: usize, b: usize, reached: &Reached) -> u64
     requires { (z < 64) × (b ≤ 4160) }
     ensures { Alike b z reached.now result }
@@ -116,6 +118,7 @@ pub fn group_of(z: usize, b: usize, reached: &Reached) -> u64
 }
 
 // The walk of a fault whose site reaches the outputs of the word, from what the search found: the lowest output that shows it, or 64, and the first pattern there.
+// Open: the answer where what was found is not what the patterns of a chip show: that it is that is the caller's to know.
 pub fn verdict(o: usize, outs: u64, best: usize, pat: usize, widths: &OutputWidths) -> Walk
     requires o_bound { (o ≤ 64) × (pat < 4294967296) }
     requires by_index { (b : ℕ) × (reached : List ℕ) × Widths o b reached widths.now × ((z : ℕ) → z < o → out_of outs z ≡ true → width_of b reached z ≤ 16) }

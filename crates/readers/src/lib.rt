@@ -41,6 +41,7 @@ fn owners(
 }
 
 // The outputs that each place reaches: those of its first pin.
+// Open: entries past the places: a table of 1,024 of which the places are in use.
 pub fn reaches(c: usize, firsts: &[u16], order: &[u16], cone: &[u64], reach: &mut [u64])
     requires c_bound { (c ≤ 1024) × (c ≤ length order.now) × (c ≤ length reach.old) }
     requires by_index { (t : ℕ) → t < c → (get_or order.now t 0 < length firsts.now) × (get_or firsts.now (get_or order.now t 0) 0 < length cone.now) }
