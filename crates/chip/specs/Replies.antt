@@ -13,17 +13,11 @@ use Rattle.chip.specs.Search as S
 use Rattle.chip.specs.Refusals.{Step, At, Is, Start, Knowing, When11, Clocks, When16, When18, When19, Short, Wrote, leaving}
 use Rattle.chip.specs.declared.Fault.{Fault}
 use Rattle.chip.specs.declared.Classed.{Classed}
-use Rattle.chip.specs.declared.Classed.TheVariants as Classed
 use Rattle.chip.specs.declared.Transformed.{Transformed}
-use Rattle.chip.specs.declared.Transformed.TheVariants as Transformed
 use Rattle.chip.specs.declared.Setting.{Setting}
-use Rattle.chip.specs.declared.Setting.TheVariants as Setting
 use Rattle.chip.specs.declared.ReadBack.{ReadBack}
-use Rattle.chip.specs.declared.ReadBack.TheVariants as ReadBack
 use Rattle.chip.specs.declared.Checked.{Checked}
-use Rattle.chip.specs.declared.Checked.TheVariants as Checked
 use Rattle.chip.specs.declared.Searched.{Searched}
-use Rattle.chip.specs.declared.Searched.TheVariants as Searched
 
 -- Naming the class: class, depth and number of blocks. Class 1 is an answer here.
 

@@ -1,10 +1,8 @@
 -- `balance::conflict` meets its contract: the lowest conflict among the pins passed is known, and a pin changes it where its word meets its label's and its input is lower.
-use borrow.Author.Rules.{rules}
-use mathlib.Core.Logic.{⊎_elim}
-use Prim.Native.Nat.{ℕ, ◌-◌, ◌<◌}
+use Prim.Native.Nat.{ℕ, ◌<◌}
 use native.Mathlib.Omega.{arith}
 use lib.ListN.{get_or}
-use Rattle.balance.proofs.Laws.{TablesPassed, pass_none, pass_over, pass_apart, pass_found, pass_all}
+use Rattle.balance.proofs.Laws.{pass_none, pass_over, pass_apart, pass_found, pass_all}
 use Rattle.balance.proofs.conflict.Goals as goal
 use Rattle.balance.proofs.conflict.Goals.{After-wide, At-loop-p, else-x-i, then-x-i+else-seen-wide-ne0, then-x-i+then-seen-wide-ne0+else-x-lowest, then-x-i+then-seen-wide-ne0+then-x-lowest}
 

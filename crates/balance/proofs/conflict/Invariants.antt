@@ -1,9 +1,5 @@
-use borrow.Author.Rules.{rules}
-use mathlib.Core.Logic.{⊎_elim}
-use Prim.Native.Nat.{ℕ, ◌-◌, ◌<◌}
-use native.Mathlib.Omega.{arith}
-use lib.ListN.{get_or}
-use Rattle.balance.proofs.Laws.{TablesPassed, pass_none, pass_over, pass_apart, pass_found, pass_all}
+use Prim.Native.Nat.{◌-◌}
+use Rattle.balance.proofs.Laws.{TablesPassed}
 use Rattle.balance.proofs.conflict.Given as goal
 
 abbrev pub invariant-loop-p : goal.invariant-loop-p

@@ -1,6 +1,5 @@
 -- `balance::mark` meets its contract: the store is the contract's own.
 use mathlib.Core.Path.{refl}
-use borrow.Author.Rules.{rules}
 use Rattle.balance.proofs.mark.Goals as goal
 
 pub returns : goal.returns

@@ -1,10 +1,7 @@
 -- `balance::meet_inputs` meets its contract: each input passed has its word added, and the lowest whose two words meet is known.
-use borrow.Author.Rules.{rules}
 use mathlib.Core.Path.{◌≡◌}
-use Prim.Native.Nat.{◌-◌, ◌≤◌}
 use native.Mathlib.Omega.{arith}
-use lib.ListN.{length, length-set}
-use Rattle.balance.specs.Balance.{InputsMet}
+use lib.ListN.{length-set}
 use Rattle.balance.proofs.Inputs.{met_none, met_more}
 use Rattle.balance.proofs.meet_inputs.Goals as goal
 

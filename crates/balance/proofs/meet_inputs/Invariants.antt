@@ -1,10 +1,7 @@
-use borrow.Author.Rules.{rules}
 use mathlib.Core.Path.{◌≡◌}
 use Prim.Native.Nat.{◌-◌, ◌≤◌}
-use native.Mathlib.Omega.{arith}
-use lib.ListN.{length, length-set}
+use lib.ListN.{length}
 use Rattle.balance.specs.Balance.{InputsMet}
-use Rattle.balance.proofs.Inputs.{met_none, met_more}
 use Rattle.balance.proofs.meet_inputs.Given as goal
 
 abbrev pub invariant-loop-x : goal.invariant-loop-x

@@ -1,11 +1,9 @@
 -- `balance::see` meets its contract: each label has its outputs of the pins passed, and a branch adds those of its word to its label's.
-use borrow.Author.Rules.{rules}
 use mathlib.Core.Path.{◌≡◌}
-use mathlib.Core.Logic.{⊎_elim}
-use Prim.Native.Nat.{◌-◌, ◌<◌}
+use Prim.Native.Nat.{◌<◌}
 use native.Mathlib.Omega.{arith}
 use lib.ListN.{length, get_or}
-use Rattle.balance.proofs.Laws.{TablesSeen, see_none, see_skip, see_more, see_all}
+use Rattle.balance.proofs.Laws.{see_none, see_skip, see_more, see_all}
 use Rattle.balance.proofs.see.Goals as goal
 use Rattle.balance.proofs.see.Goals.{else-wide-i, then-wide-i}
 

@@ -1,10 +1,5 @@
-use borrow.Author.Rules.{rules}
-use mathlib.Core.Path.{◌≡◌}
-use mathlib.Core.Logic.{⊎_elim}
-use Prim.Native.Nat.{◌-◌, ◌<◌}
-use native.Mathlib.Omega.{arith}
-use lib.ListN.{length, get_or}
-use Rattle.balance.proofs.Laws.{TablesSeen, see_none, see_skip, see_more, see_all}
+use Prim.Native.Nat.{◌-◌}
+use Rattle.balance.proofs.Laws.{TablesSeen}
 use Rattle.balance.proofs.see.Given as goal
 
 abbrev pub invariant-loop-p : goal.invariant-loop-p

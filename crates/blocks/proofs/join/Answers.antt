@@ -1,6 +1,4 @@
 -- `blocks::join` keeps its contract: the higher of two labels gives way to the lower, and equal labels stay.
-use borrow.Author.Rules.{rules}
-use mathlib.Core.Logic.{⊎_elim}
 use native.Mathlib.Omega.{arith}
 use lib.ListN.{get_or}
 use Rattle.blocks.proofs.Labels.{join_up, join_down, join_none}

@@ -1,10 +1,7 @@
 -- `blocks::join_level` keeps its contract: each pin passed is joined to the pins before it that reach an output of its word, and one that is no branch or reaches none has nothing to join.
-use borrow.Author.Rules.{rules}
 use mathlib.Core.Path.{sym}
-use mathlib.Core.Logic.{⊎_elim}
-use Prim.Native.Nat.{◌-◌}
 use native.Mathlib.Omega.{arith}
-use Rattle.blocks.proofs.Meeting.{TablesMet, level_none, level_pin, level_still, level_inner, level_all}
+use Rattle.blocks.proofs.Meeting.{level_none, level_pin, level_still, level_inner, level_all}
 use Rattle.blocks.proofs.join_level.Goals as goal
 use Rattle.blocks.proofs.join_level.Goals.{else-x-i, then-x-i+else-word-ne0, then-x-i+then-word-ne0}
 

@@ -1,9 +1,5 @@
-use borrow.Author.Rules.{rules}
-use mathlib.Core.Path.{sym}
-use mathlib.Core.Logic.{⊎_elim}
 use Prim.Native.Nat.{◌-◌}
-use native.Mathlib.Omega.{arith}
-use Rattle.blocks.proofs.Meeting.{TablesMet, level_none, level_pin, level_still, level_inner, level_all}
+use Rattle.blocks.proofs.Meeting.{TablesMet}
 use Rattle.blocks.proofs.join_level.Given as goal
 
 abbrev pub invariant-loop-p : goal.invariant-loop-p

@@ -1,10 +1,6 @@
 -- `blocks::join_pin` keeps its contract: at each output of the word the pin meets the pins that reached it before, and at the others there is nothing to join.
-use borrow.Author.Rules.{rules}
 use mathlib.Core.Path.{sym, ◌∙◌}
-use mathlib.Core.Logic.{⊎_elim}
-use Prim.Native.Nat.{◌-◌, ◌≤◌}
 use native.Mathlib.Omega.{arith}
-use Rattle.blocks.specs.Steps.{PinJoined}
 use Rattle.blocks.proofs.Meeting.{pin_joined_none, pin_joined_hit, pin_joined_miss, pin_joined_all}
 use Rattle.blocks.proofs.join_pin.Goals as goal
 use Rattle.blocks.proofs.join_pin.Goals.{else-has_bit, then-has_bit}

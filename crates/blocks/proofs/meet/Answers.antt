@@ -1,5 +1,4 @@
 -- `blocks::meet` keeps its contract: a free entry becomes the pin's, and a taken one names the pin to join to.
-use borrow.Author.Rules.{rules}
 use Prim.Native.Nat.{◌-◌}
 use native.Mathlib.Omega.{arith}
 use Rattle.blocks.proofs.Meeting.{met_first, met_next}

@@ -1,14 +1,9 @@
 -- `blocks::number_blocks` keeps its contract: the inputs are numbered one after another, each from the number behind the last.
-use borrow.Author.Rules.{rules}
 use mathlib.Core.Path.{◌≡◌}
-use Prim.Native.Nat.{◌-◌, ◌≤◌}
 use native.Mathlib.Omega.{arith}
-use Rattle.chip.specs.Netlist.{Netlist}
-use Rattle.chip.specs.Class.{Lowest}
-use Rattle.levels.specs.Branches.{Branched}
 use Rattle.blocks.specs.Labels.{label_of}
 use Rattle.blocks.proofs.Labels.{label_in}
-use Rattle.blocks.proofs.Numbers.{Counted, counted_none, counted_more, counted_all, counted_few, lowest_under}
+use Rattle.blocks.proofs.Numbers.{counted_none, counted_more, counted_all, counted_few, lowest_under}
 use Rattle.blocks.proofs.number_blocks.Goals as goal
 
 pub loop-x-init : goal.loop-x-init

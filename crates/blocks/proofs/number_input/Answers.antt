@@ -1,10 +1,7 @@
 -- `blocks::number_input` keeps its contract: a branch that is its block's lowest pin takes the next number, and another has the number of that pin, which is below it.
-use borrow.Author.Rules.{rules}
 use mathlib.Core.Path.{sym, ◌∙◌}
-use mathlib.Core.Logic.{⊎_elim}
-use Prim.Native.Nat.{◌-◌}
 use native.Mathlib.Omega.{arith}
-use Rattle.blocks.proofs.Numbers.{TablesNumbered, walk_none, walk_skip, walk_lead, walk_follow, walk_all}
+use Rattle.blocks.proofs.Numbers.{walk_none, walk_skip, walk_lead, walk_follow, walk_all}
 use Rattle.blocks.proofs.number_input.Goals as goal
 use Rattle.blocks.proofs.number_input.Goals.{else-wide-x, then-wide-x+else-l-p, then-wide-x+then-l-p}
 

@@ -1,10 +1,7 @@
 -- `blocks::relabel` keeps its contract: each pin passed has lost the label `from`, and the others wait.
-use borrow.Author.Rules.{rules}
 use mathlib.Core.Path.{refl}
-use mathlib.Core.Logic.{⊎_elim}
-use Prim.Native.Nat.{◌-◌, ◌≤◌}
 use native.Mathlib.Omega.{arith}
-use Rattle.blocks.proofs.Labels.{Replacing, replacing_hit, replacing_miss}
+use Rattle.blocks.proofs.Labels.{replacing_hit, replacing_miss}
 use Rattle.blocks.proofs.relabel.Goals as goal
 use Rattle.blocks.proofs.relabel.Goals.{else-labels-q, then-labels-q}
 

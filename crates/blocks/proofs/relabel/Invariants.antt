@@ -1,9 +1,5 @@
-use borrow.Author.Rules.{rules}
-use mathlib.Core.Path.{refl}
-use mathlib.Core.Logic.{⊎_elim}
 use Prim.Native.Nat.{◌-◌, ◌≤◌}
-use native.Mathlib.Omega.{arith}
-use Rattle.blocks.proofs.Labels.{Replacing, replacing_hit, replacing_miss}
+use Rattle.blocks.proofs.Labels.{Replacing}
 use Rattle.blocks.proofs.relabel.Given as goal
 
 abbrev pub invariant-loop-q : goal.invariant-loop-q

@@ -29,8 +29,8 @@ way_of : (c : Else-i-x) {N : Netlist} {n : ℕ} → N.inputs ≡ c.args.i → Wa
     → Way N c.args.firsts.now c.args.p
 way_of c e W l = record { limits = W.limits; loop_free = W.loop_free; first_pins = W.first_pins; pin = omega (arith, l, W.pins); input = omega (arith, input_is (goal.at.Else-i-x c).After-wide-x W l, c.if-i-x.false, e) }
 
-branch-of : {N : Netlist} {firsts : List ℕ} {p : ℕ} → Way N firsts p → Branch N (branch_of N p) p
-branch-of W = record { pin = W.pin; names = refl; input = W.input }
+is_branch : {N : Netlist} {firsts : List ℕ} {p : ℕ} → Way N firsts p → Branch N (branch_of N p) p
+is_branch W = record { pin = W.pin; names = refl; input = W.input }
 
 -- its block
 block_low : (c : After-wide-b) → c.wide-b.result < 64
@@ -75,7 +75,7 @@ returns-then-wide-b c = (
   λ o n kinds counts low l W t f K.
       let N = net_of (goal.at.returns-then-wide-b c).Start o kinds counts in
       flat_skip N (blocks N low) c.args.p c.args.marks.now K
-      (λ h. sym (f (branch_of N c.args.p) h) ∙ sym (lowest_is (goal.at.returns-then-wide-b c).After-wide W l) ∙ c.if-wide-b.true ∙ c.wide-b.ensures ∙ t (branch_of N c.args.p) c.args.p (branch-of (way_of (goal.at.returns-then-wide-b c).Else-i-x refl W l))),
+      (λ h. sym (f (branch_of N c.args.p) h) ∙ sym (lowest_is (goal.at.returns-then-wide-b c).After-wide W l) ∙ c.if-wide-b.true ∙ c.wide-b.ensures ∙ t (branch_of N c.args.p) c.args.p (is_branch (way_of (goal.at.returns-then-wide-b c).Else-i-x refl W l))),
 )
 
 pub overflow_mul-b : goal.overflow_mul-b
@@ -94,7 +94,7 @@ returns c =
       λ o n kinds counts low l W t f K.
           let N = net_of (goal.at.returns c).Start o kinds counts in
           let Y = way_of (goal.at.returns c).Else-i-x refl W l in
-          let b : c.wide-b.result ≡ (blocks N low).block c.args.p = c.wide-b.ensures ∙ t (branch_of N c.args.p) c.args.p (branch-of Y) in
+          let b : c.wide-b.result ≡ (blocks N low).block c.args.p = c.wide-b.ensures ∙ t (branch_of N c.args.p) c.args.p (is_branch Y) in
           flat_more N (blocks N low) c.args.p c.args.marks.now K _ Y.input
           (λ q. c.if-wide-b.false (lowest_is (goal.at.returns c).After-wide W l ∙ f (branch_of N c.args.p) Y.input ∙ q ∙ sym b))
           (rw b at (M o kinds counts Y)),

@@ -2,7 +2,6 @@
 use Rattle.chip.specs.Format.{byte_at}
 use borrow.Author.Tests.{lt-ltb, le-ltb}
 use native.Mathlib.Omega.{arith}
-use borrow.Author.Rules.{rules}
 use Rattle.fields.proofs.byte_at.Goals as goal
 
 pub overflow_cast-result : goal.overflow_cast-result

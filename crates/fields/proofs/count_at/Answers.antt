@@ -4,7 +4,6 @@ use Rattle.fields.specs.Steps.{says}
 use mathlib.Core.Path.{sym, ap, ◌∙◌}
 use borrow.Author.Tests.{le-leb, lt-leb}
 use native.Mathlib.Omega.{arith}
-use borrow.Author.Rules.{rules}
 use Rattle.fields.proofs.count_at.Goals as goal
 
 pub returns-then-n-lo : goal.returns-then-n-lo

@@ -1,9 +1,6 @@
 -- The pad is among the first n exactly if it is among those from i on, since no pad before i is the one.
 use Rattle.fields.proofs.Laws.{in_here, in_later, in_none}
-use lib.ListN.{take, drop}
-use Prim.Native.Nat.{◌≤◌, ◌-◌}
-use Rattle.chip.specs.Format.{is_in}
-use mathlib.Core.Path.{◌≡◌, refl, sym, ◌∙◌}
+use mathlib.Core.Path.{refl, sym, ◌∙◌}
 use native.Mathlib.Omega.{arith}
 use Rattle.fields.proofs.is_used.Goals as goal
 

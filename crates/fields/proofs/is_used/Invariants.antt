@@ -1,9 +1,7 @@
-use Rattle.fields.proofs.Laws.{in_here, in_later, in_none}
 use lib.ListN.{take, drop}
 use Prim.Native.Nat.{◌≤◌, ◌-◌}
 use Rattle.chip.specs.Format.{is_in}
-use mathlib.Core.Path.{◌≡◌, refl, sym, ◌∙◌}
-use native.Mathlib.Omega.{arith}
+use mathlib.Core.Path.{◌≡◌}
 use Rattle.fields.proofs.is_used.Given as goal
 
 abbrev pub invariant-loop-i : goal.invariant-loop-i

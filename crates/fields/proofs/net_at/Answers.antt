@@ -3,7 +3,6 @@ use Rattle.chip.specs.Format.{net_at}
 use Rattle.fields.specs.Steps.{says}
 use mathlib.Core.Path.{sym, ap, ◌∙◌}
 use borrow.Author.Tests.{lt-ltb, le-ltb}
-use borrow.Author.Rules.{rules}
 use Rattle.fields.proofs.net_at.Goals as goal
 
 pub returns-then-net-bound : goal.returns-then-net-bound

@@ -3,7 +3,6 @@ use Rattle.chip.specs.Format.{pad_at, byte_at}
 use mathlib.Core.Path.{sym, ◌∙◌}
 use borrow.Author.Tests.{lt-ltb, le-ltb, eq-eqb, ne_eqb}
 use native.Mathlib.Omega.{arith}
-use borrow.Author.Rules.{rules}
 use Rattle.fields.proofs.pad_at.Goals as goal
 
 pub returns-then-file-at : goal.returns-then-file-at

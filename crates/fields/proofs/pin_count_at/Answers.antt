@@ -9,7 +9,6 @@ use mathlib.Core.Bool.{true, false}
 use lib.Dec.{leb}
 use borrow.Author.Tests.{leb-true}
 use native.Mathlib.Omega.{arith}
-use borrow.Author.Rules.{rules}
 use Rattle.fields.proofs.pin_count_at.Goals as goal
 
 pub returns-in-Refused : goal.returns-in-Refused

@@ -3,7 +3,6 @@ use Prim.Native.Nat.{◌+◌}
 use Rattle.chip.specs.Format.{word_at}
 use borrow.Author.Tests.{le-leb, lt-leb}
 use native.Mathlib.Omega.{arith}
-use borrow.Author.Rules.{rules}
 use Rattle.fields.proofs.word_at.Goals as goal
 
 pub overflow_cast-result : goal.overflow_cast-result

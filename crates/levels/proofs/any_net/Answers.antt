@@ -1,10 +1,6 @@
 -- After k nets the word has just the outputs that one of them reaches, since `|` joins the masks of two sets of nets.
-use borrow.Author.Rules.{rules}
 use mathlib.Core.Path.{◌≡◌}
-use Prim.Native.Nat.{ℕ, ◌+◌, ◌-◌, ◌≤◌}
 use native.Mathlib.Omega.{arith}
-use Rattle.chip.specs.Netlist.{Netlist}
-use Rattle.levels.specs.Levels.{Mask, NetMasks, NetsReach}
 use Rattle.levels.proofs.Nets.{below_zero, below_next}
 use Rattle.levels.proofs.any_net.Goals as goal
 

@@ -1,10 +1,6 @@
-use borrow.Author.Rules.{rules}
-use mathlib.Core.Path.{◌≡◌}
 use Prim.Native.Nat.{ℕ, ◌+◌, ◌-◌, ◌≤◌}
-use native.Mathlib.Omega.{arith}
 use Rattle.chip.specs.Netlist.{Netlist}
 use Rattle.levels.specs.Levels.{Mask, NetMasks, NetsReach}
-use Rattle.levels.proofs.Nets.{below_zero, below_next}
 use Rattle.levels.proofs.any_net.Given as goal
 
 abbrev pub invariant-loop-k : goal.invariant-loop-k

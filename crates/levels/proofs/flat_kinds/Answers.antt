@@ -1,10 +1,6 @@
 -- `levels::flat_kinds` keeps its contract: each entry is stored as the kind without its flip-flop, and behind the tables stand zeros in both.
-use Prim.Native.Nat.{ℕ, ◌-◌, ◌≤◌, ◌<◌}
-use mathlib.Core.Path.{◌≡◌}
 use native.Mathlib.Omega.{arith}
-use borrow.Author.Rules.{rules}
-use lib.ListN.{length, get_or, length-set}
-use Rattle.chip.specs.Transformed.{flat}
+use lib.ListN.{length-set}
 use Rattle.levels.proofs.Flat.{flat_all, flat_more}
 use Rattle.levels.proofs.flat_kinds.Goals as goal
 

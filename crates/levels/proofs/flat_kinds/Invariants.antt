@@ -1,10 +1,7 @@
 use Prim.Native.Nat.{ℕ, ◌-◌, ◌≤◌, ◌<◌}
 use mathlib.Core.Path.{◌≡◌}
-use native.Mathlib.Omega.{arith}
-use borrow.Author.Rules.{rules}
-use lib.ListN.{length, get_or, length-set}
+use lib.ListN.{length, get_or}
 use Rattle.chip.specs.Transformed.{flat}
-use Rattle.levels.proofs.Flat.{flat_all, flat_more}
 use Rattle.levels.proofs.flat_kinds.Given as goal
 
 abbrev pub invariant-loop-j : goal.invariant-loop-j

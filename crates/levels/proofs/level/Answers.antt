@@ -1,5 +1,4 @@
 -- The nets start clear and the outputs' pins are done first, so the marking of the cells ends with all pins and nets done.
-use borrow.Author.Rules.{rules}
 use mathlib.Core.Path.{◌≡◌, ◌∙◌}
 use native.Mathlib.Omega.{arith}
 use lib.ListN.{get_or}
@@ -17,11 +16,11 @@ pub clear-requires : goal.clear-requires
 clear-requires c = (omega (arith, c.requires.in_limits.few_inputs, c.requires.in_limits.few_cells), c.clear-arg-1.given.0.1)
 
 -- the first pin behind the cells' is where the outputs' pins start
-is-first : (c : After-wide) → c.wide.result ≡ sum_below (λ j. get_or c.args.counts.now j 0) c.args.c
-is-first c = c.wide.ensures ∙ c.requires.first_pins c.args.c (omega arith)
+is_first : (c : After-wide) → c.wide.result ≡ sum_below (λ j. get_or c.args.counts.now j 0) c.args.c
+is_first c = c.wide.ensures ∙ c.requires.first_pins c.args.c (omega arith)
 
 pub mark_outputs-requires : goal.mark_outputs-requires
-mark_outputs-requires c = let a = c.args in record { sized = record { of_pins = c.mark_outputs-arg-1.given.0.1; of_nets = c.mark_outputs-arg-2-1.given.0.1 }; o_bound = c.requires.in_limits.few_outputs; markable = markable a.i a.c a.o a.kinds.now a.counts.now a.nets.now c.requires.in_limits c.wide.result a.o (omega (arith, is-first (goal.at.mark_outputs-requires c).After-wide)) }
+mark_outputs-requires c = let a = c.args in record { sized = record { of_pins = c.mark_outputs-arg-1.given.0.1; of_nets = c.mark_outputs-arg-2-1.given.0.1 }; o_bound = c.requires.in_limits.few_outputs; markable = markable a.i a.c a.o a.kinds.now a.counts.now a.nets.now c.requires.in_limits c.wide.result a.o (omega (arith, is_first (goal.at.mark_outputs-requires c).After-wide)) }
 
 pub mark_cells-requires : goal.mark_cells-requires
 mark_cells-requires c =
@@ -50,4 +49,4 @@ returns c =
     (omega (arith, L.few_pins, c.mark_outputs-arg-1.given.0.1))
     (omega (arith, L.few_inputs, L.few_cells, c.mark_outputs-arg-2-1.given.0.1))
     (λ n h. q.ensures n h)
-    c.wide.result (is-first (goal.at.returns c).After-wide) c.mark_outputs.ensures.at_pins_lem c.mark_outputs.ensures.at_nets)
+    c.wide.result (is_first (goal.at.returns c).After-wide) c.mark_outputs.ensures.at_pins_lem c.mark_outputs.ensures.at_nets)

@@ -1,5 +1,4 @@
 -- Both stores are the ones that the contract names, and `wide` gives the pin's net without a change.
-use borrow.Author.Rules.{rules}
 use mathlib.Core.Path.{refl}
 use Rattle.levels.proofs.mark.Goals as goal
 

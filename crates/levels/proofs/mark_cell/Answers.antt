@@ -1,9 +1,6 @@
 -- After k pins all of them have the word and their nets have it added, and `mark` does one pin more.
-use borrow.Author.Rules.{rules}
 use mathlib.Core.Path.{◌≡◌, refl}
-use Prim.Native.Nat.{◌-◌, ◌≤◌}
 use native.Mathlib.Omega.{arith}
-use Rattle.levels.specs.Marking.{Marked}
 use Rattle.levels.proofs.Marking.{marked_more}
 use Rattle.levels.proofs.mark_cell.Goals as goal
 

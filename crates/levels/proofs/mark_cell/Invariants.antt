@@ -1,9 +1,5 @@
-use borrow.Author.Rules.{rules}
-use mathlib.Core.Path.{◌≡◌, refl}
 use Prim.Native.Nat.{◌-◌, ◌≤◌}
-use native.Mathlib.Omega.{arith}
 use Rattle.levels.specs.Marking.{Marked}
-use Rattle.levels.proofs.Marking.{marked_more}
 use Rattle.levels.proofs.mark_cell.Given as goal
 
 abbrev pub invariant-loop-k : goal.invariant-loop-k

@@ -1,12 +1,11 @@
 -- The cells from place k of the order on are done, so all readers of the next cell's net are, and its mask is complete.
-use borrow.Author.Rules.{rules}
 use mathlib.Core.Path.{◌≡◌, sym, ◌∙◌, subst}
-use mathlib.Core.Logic.{inl, inr, ⊎_elim}
-use Prim.Native.Nat.{ℕ, suc, ◌+◌, ◌-◌, ◌≤◌, ◌<◌}
+use mathlib.Core.Logic.{inl, inr}
+use Prim.Native.Nat.{ℕ, suc, ◌+◌, ◌-◌, ◌<◌}
 use native.Mathlib.Omega.{arith}
 use Rattle.chip.specs.Inner.Tables.{tabled}
-use Rattle.levels.specs.Marking.{Sized, Done}
-use Rattle.levels.proofs.Cells.{From, CellsKept, from_last, level_done, cell_done}
+use Rattle.levels.specs.Marking.{Done}
+use Rattle.levels.proofs.Cells.{From, from_last, level_done, cell_done}
 use Rattle.levels.proofs.mark_cells.Goals as goal
 use Rattle.levels.proofs.mark_cells.Goals.{After-wide-j, else-kind-ge8, then-kind-ge8}
 
@@ -22,29 +21,29 @@ in_table : (c : After-wide-j) → c.wide-j.result < 1024
 in_table c = omega (arith, is_cell c, c.requires.cells_markable.few_cells)
 
 -- its net is one of the nets
-is-net : (c : After-wide-j) → c.args.i + c.wide-j.result < 1088
-is-net c = omega (arith, in_table c, c.requires.cells_markable.few_inputs)
+is_net : (c : After-wide-j) → c.args.i + c.wide-j.result < 1088
+is_net c = omega (arith, in_table c, c.requires.cells_markable.few_inputs)
 
 pub bounds-kinds-j : goal.bounds-kinds-j
 bounds-kinds-j c = in_table (goal.at.bounds-kinds-j c).After-wide-j
 
 pub overflow_add-word : goal.overflow_add-word
-overflow_add-word c = omega (arith, is-net (goal.at.overflow_add-word c).After-wide-j)
+overflow_add-word c = omega (arith, is_net (goal.at.overflow_add-word c).After-wide-j)
 
 pub offset_bounds-reached-i : goal.offset_bounds-reached-i
-offset_bounds-reached-i c = omega (arith, is-net (goal.at.offset_bounds-reached-i c).After-wide-j)
+offset_bounds-reached-i c = omega (arith, is_net (goal.at.offset_bounds-reached-i c).After-wide-j)
 
 pub bounds-reached-i : goal.bounds-reached-i
-bounds-reached-i c = omega (arith, is-net (goal.at.bounds-reached-i c).After-wide-j, c.loop-k.invariant.1.of_nets)
+bounds-reached-i c = omega (arith, is_net (goal.at.bounds-reached-i c).After-wide-j, c.loop-k.invariant.1.of_nets)
 
 pub overflow_add-word-then-kind-ge8 : goal.overflow_add-word-then-kind-ge8
-overflow_add-word-then-kind-ge8 c = omega (arith, is-net (goal.at.overflow_add-word-then-kind-ge8 c).After-wide-j)
+overflow_add-word-then-kind-ge8 c = omega (arith, is_net (goal.at.overflow_add-word-then-kind-ge8 c).After-wide-j)
 
 pub offset_bounds-before-i : goal.offset_bounds-before-i
-offset_bounds-before-i c = omega (arith, is-net (goal.at.offset_bounds-before-i c).After-wide-j)
+offset_bounds-before-i c = omega (arith, is_net (goal.at.offset_bounds-before-i c).After-wide-j)
 
 pub bounds-before-i : goal.bounds-before-i
-bounds-before-i c = omega (arith, is-net (goal.at.bounds-before-i c).After-wide-j)
+bounds-before-i c = omega (arith, is_net (goal.at.bounds-before-i c).After-wide-j)
 
 pub offset_bounds-firsts-j : goal.offset_bounds-firsts-j
 offset_bounds-firsts-j c = omega (arith, in_table (goal.at.offset_bounds-firsts-j c).After-wide-j)

@@ -1,11 +1,7 @@
-use borrow.Author.Rules.{rules}
-use mathlib.Core.Path.{◌≡◌, sym, ◌∙◌, subst}
-use mathlib.Core.Logic.{inl, inr, ⊎_elim}
-use Prim.Native.Nat.{ℕ, suc, ◌+◌, ◌-◌, ◌≤◌, ◌<◌}
-use native.Mathlib.Omega.{arith}
+use Prim.Native.Nat.{ℕ, ◌≤◌}
 use Rattle.chip.specs.Inner.Tables.{tabled}
-use Rattle.levels.specs.Marking.{Sized, Done}
-use Rattle.levels.proofs.Cells.{From, CellsKept, from_last, level_done, cell_done}
+use Rattle.levels.specs.Marking.{Sized}
+use Rattle.levels.proofs.Cells.{CellsKept}
 use Rattle.levels.proofs.mark_cells.Given as goal
 
 -- the cells from place k of the order on are done, whatever the outputs and the depth

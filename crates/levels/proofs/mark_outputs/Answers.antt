@@ -1,10 +1,7 @@
 -- After z outputs each pin has its word: the output's own bit at depth 0, the empty word at any other depth.
-use borrow.Author.Rules.{rules}
 use mathlib.Core.Path.{◌≡◌, refl, sym, ◌∙◌}
-use Prim.Native.Nat.{◌-◌, ◌≤◌}
 use native.Mathlib.Omega.{arith}
-use mathlib.Core.Logic.{⊎_elim}
-use Rattle.levels.specs.Marking.{Marked, out_word}
+use Rattle.levels.specs.Marking.{out_word}
 use Rattle.levels.proofs.Marking.{marked_more, word_first, word_later}
 use Rattle.levels.proofs.mark_outputs.Goals as goal
 use Rattle.levels.proofs.mark_outputs.Goals.{else-e-eq0, then-e-eq0}

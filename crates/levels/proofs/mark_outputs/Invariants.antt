@@ -1,10 +1,5 @@
-use borrow.Author.Rules.{rules}
-use mathlib.Core.Path.{◌≡◌, refl, sym, ◌∙◌}
 use Prim.Native.Nat.{◌-◌, ◌≤◌}
-use native.Mathlib.Omega.{arith}
-use mathlib.Core.Logic.{⊎_elim}
 use Rattle.levels.specs.Marking.{Marked, out_word}
-use Rattle.levels.proofs.Marking.{marked_more, word_first, word_later}
 use Rattle.levels.proofs.mark_outputs.Given as goal
 
 abbrev pub invariant-loop-z : goal.invariant-loop-z

@@ -1,6 +1,5 @@
 -- `levels::reach_masks` keeps its contract: without flip-flops each path has depth 0, and the order and the limits stay.
 use mathlib.Core.Path.{sym, subst}
-use borrow.Author.Rules.{rules}
 use lib.ListN.{replicate}
 use Rattle.chip.specs.Inner.Limits.{InLimits}
 use Rattle.chip.specs.Inner.Tables.{tabled}

@@ -3,12 +3,10 @@ use Prim.Native.Nat.{◌+◌, ◌-◌, ◌≤◌, ◌<◌}
 use mathlib.Core.Path.{◌≡◌}
 use native.Mathlib.Omega.{arith}
 use lib.ListN.{get_or}
-use borrow.Author.Rules.{rules}
 use mathlib.Core.Bool.{false}
 use Rattle.order.specs.Placed.{PinAt, fed}
 use Rattle.order.proofs.Listed.{free}
 use Rattle.order.proofs.Order.{fed_false}
-use Rattle.loops.specs.Walk.{Followed}
 use Rattle.loops.proofs.Walk.{follow_start, follow_kept, follow_more, follow_done}
 use Rattle.loops.proofs.follow.Goals as goal
 use Rattle.loops.proofs.follow.Goals.{At-loop-p, Else-is_fed}
@@ -46,9 +44,9 @@ left : (c : Else-is_fed) →
 left c = cc (c.is_fed.ensures, c.if-is_fed.false, c.wide-net.ensures)
 
 -- so a place is free for it
-free-place : (c : Else-is_fed) →
+free_place : (c : Else-is_fed) →
     (c.args.i ≤ c.wide-net.result) × (c.wide-net.result - c.args.i < 1024) × (c.loop-p.n < 1024)
-free-place c =
+free_place c =
     let W = c.requires.wired in
     let p = get_or c.args.nets.now c.loop-p.p 0 in
     let e : c.wide-net.result ≡ p = c.wide-net.ensures in
@@ -58,31 +56,31 @@ free-place c =
     (omega arith, omega (arith, W.few_cells), omega (arith, W.few_cells))
 
 pub overflow_sub-h : goal.overflow_sub-h
-overflow_sub-h c = omega (arith, free-place (goal.at.overflow_sub-h c).Else-is_fed)
+overflow_sub-h c = omega (arith, free_place (goal.at.overflow_sub-h c).Else-is_fed)
 
 pub overflow_cast-list : goal.overflow_cast-list
-overflow_cast-list c = omega (arith, free-place (goal.at.overflow_cast-list c).Else-is_fed)
+overflow_cast-list c = omega (arith, free_place (goal.at.overflow_cast-list c).Else-is_fed)
 
 pub offset_bounds-list-n : goal.offset_bounds-list-n
-offset_bounds-list-n c = omega (arith, free-place (goal.at.offset_bounds-list-n c).Else-is_fed)
+offset_bounds-list-n c = omega (arith, free_place (goal.at.offset_bounds-list-n c).Else-is_fed)
 
 pub bounds-list-n : goal.bounds-list-n
-bounds-list-n c = omega (arith, free-place (goal.at.bounds-list-n c).Else-is_fed, c.loop-p.invariant.1.listed.entries)
+bounds-list-n c = omega (arith, free_place (goal.at.bounds-list-n c).Else-is_fed, c.loop-p.invariant.1.listed.entries)
 
 pub overflow_add-places : goal.overflow_add-places
-overflow_add-places c = omega (arith, free-place (goal.at.overflow_add-places c).Else-is_fed)
+overflow_add-places c = omega (arith, free_place (goal.at.overflow_add-places c).Else-is_fed)
 
 pub overflow_cast-places : goal.overflow_cast-places
-overflow_cast-places c = omega (arith, free-place (goal.at.overflow_cast-places c).Else-is_fed)
+overflow_cast-places c = omega (arith, free_place (goal.at.overflow_cast-places c).Else-is_fed)
 
 pub offset_bounds-places-h : goal.offset_bounds-places-h
-offset_bounds-places-h c = omega (arith, free-place (goal.at.offset_bounds-places-h c).Else-is_fed)
+offset_bounds-places-h c = omega (arith, free_place (goal.at.offset_bounds-places-h c).Else-is_fed)
 
 pub bounds-places-h : goal.bounds-places-h
-bounds-places-h c = omega (arith, free-place (goal.at.bounds-places-h c).Else-is_fed, c.loop-p.invariant.1.listed.marks)
+bounds-places-h c = omega (arith, free_place (goal.at.bounds-places-h c).Else-is_fed, c.loop-p.invariant.1.listed.marks)
 
 pub overflow_add-n : goal.overflow_add-n
-overflow_add-n c = omega (arith, free-place (goal.at.overflow_add-n c).Else-is_fed)
+overflow_add-n c = omega (arith, free_place (goal.at.overflow_add-n c).Else-is_fed)
 
 pub loop-p-preserved : goal.loop-p-preserved
 loop-p-preserved c = (omega arith, rw c.wide-net.ensures (follow_more c.loop-p.invariant.1 c.requires.wired c.requires.j_lt_c (own (goal.at.loop-p-preserved c).At-loop-p c.loop-p-test.true) (left (goal.at.loop-p-preserved c).Else-is_fed)))

@@ -1,14 +1,6 @@
-use Prim.Native.Nat.{◌+◌, ◌-◌, ◌≤◌, ◌<◌}
-use mathlib.Core.Path.{◌≡◌}
-use native.Mathlib.Omega.{arith}
+use Prim.Native.Nat.{◌-◌, ◌≤◌}
 use lib.ListN.{get_or}
-use borrow.Author.Rules.{rules}
-use mathlib.Core.Bool.{false}
-use Rattle.order.specs.Placed.{PinAt, fed}
-use Rattle.order.proofs.Listed.{free}
-use Rattle.order.proofs.Order.{fed_false}
 use Rattle.loops.specs.Walk.{Followed}
-use Rattle.loops.proofs.Walk.{follow_start, follow_kept, follow_more, follow_done}
 use Rattle.loops.proofs.follow.Given as goal
 
 abbrev pub invariant-loop-p : goal.invariant-loop-p

@@ -1,11 +1,7 @@
 -- No net of a cell from `from` up to j reaches itself, and none below does, so the first that does is the lowest.
-use Prim.Native.Nat.{ℕ, ◌-◌, ◌≤◌}
-use mathlib.Core.List.{List}
 use native.Mathlib.Omega.{arith}
-use borrow.Author.Rules.{rules}
 use borrow.Author.Count.{below_more}
-use Rattle.chip.specs.Inner.Tables.{FirstPins, tabled}
-use Rattle.loops.proofs.Lowest.{NoneTo, lowest, found}
+use Rattle.loops.proofs.Lowest.{lowest, found}
 use Rattle.loops.proofs.lowest_on_loop.Goals as goal
 
 pub loop-j-init : goal.loop-j-init

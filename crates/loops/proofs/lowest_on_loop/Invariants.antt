@@ -1,10 +1,7 @@
 use Prim.Native.Nat.{ℕ, ◌-◌, ◌≤◌}
 use mathlib.Core.List.{List}
-use native.Mathlib.Omega.{arith}
-use borrow.Author.Rules.{rules}
-use borrow.Author.Count.{below_more}
 use Rattle.chip.specs.Inner.Tables.{FirstPins, tabled}
-use Rattle.loops.proofs.Lowest.{NoneTo, lowest, found}
+use Rattle.loops.proofs.Lowest.{NoneTo}
 use Rattle.loops.proofs.lowest_on_loop.Given as goal
 
 abbrev pub invariant-loop-j : goal.invariant-loop-j

@@ -1,11 +1,9 @@
 -- All cells on the list feed the cell's net, and once the pins of each are followed, all that feed it are on the list.
-use Prim.Native.Nat.{◌-◌, ◌<◌}
+use Prim.Native.Nat.{◌<◌}
 use mathlib.Core.Path.{refl}
 use native.Mathlib.Omega.{arith}
 use lib.ListN.{get_or-replicate}
-use borrow.Author.Rules.{rules}
 use Rattle.order.proofs.Listed.{none_listed}
-use Rattle.loops.specs.Walk.{Walked}
 use Rattle.loops.proofs.Walk.{walk_start, walk_more, walk_done}
 use Rattle.loops.proofs.on_loop.Goals as goal
 use Rattle.loops.proofs.on_loop.Goals.{At-loop-k}

@@ -1,11 +1,5 @@
-use Prim.Native.Nat.{◌-◌, ◌<◌}
-use mathlib.Core.Path.{refl}
-use native.Mathlib.Omega.{arith}
-use lib.ListN.{get_or-replicate}
-use borrow.Author.Rules.{rules}
-use Rattle.order.proofs.Listed.{none_listed}
+use Prim.Native.Nat.{◌-◌}
 use Rattle.loops.specs.Walk.{Walked}
-use Rattle.loops.proofs.Walk.{walk_start, walk_more, walk_done}
 use Rattle.loops.proofs.on_loop.Given as goal
 
 abbrev pub invariant-loop-k : goal.invariant-loop-k

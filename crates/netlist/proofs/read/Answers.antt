@@ -2,7 +2,6 @@
 use Rattle.netlist.proofs.Laws.{reading_told, reading_kept, taken}
 use Rattle.netlist.specs.Answer.{tables_of, zeros}
 use mathlib.Core.Path.{sym, ap, ◌∙◌}
-use borrow.Author.Rules.{rules}
 use Rattle.netlist.proofs.read.Goals as goal
 
 pub returns-in-Refused : goal.returns-in-Refused

@@ -8,7 +8,6 @@ use mathlib.Core.Path.{◌≡◌}
 use lib.ListN.{length, take}
 use lib.Seq.{length-take-le, drop-set-lt}
 use native.Mathlib.Omega.{arith}
-use borrow.Author.Rules.{rules}
 use Rattle.netlist.proofs.read_cell.Goals as goal
 
 pub returns-in-Refused : goal.returns-in-Refused

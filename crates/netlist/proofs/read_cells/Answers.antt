@@ -1,10 +1,5 @@
 -- What the cells left to read add to those stored is always what all n give, and cell j starts at from + 2 * j + 2 * p.
 use Rattle.netlist.proofs.Laws.{cell_told, cell_kept, cells_more, cells_stop, cells_done, kept_more}
-use Rattle.netlist.specs.Inner.Steps.{Kept, so_far}
-use borrow.Author.Rules.{rules}
-use lib.ListN.{length}
-use Prim.Native.Nat.{◌+◌, ◌*◌, ◌≤◌}
-use Rattle.chip.specs.Format.{cells}
 use mathlib.Core.Path.{◌≡◌, refl, sym, ◌∙◌}
 use native.Mathlib.Omega.{arith}
 use Rattle.netlist.proofs.read_cells.Goals as goal

@@ -1,11 +1,8 @@
-use Rattle.netlist.proofs.Laws.{cell_told, cell_kept, cells_more, cells_stop, cells_done, kept_more}
 use Rattle.netlist.specs.Inner.Steps.{Kept, so_far}
-use borrow.Author.Rules.{rules}
 use lib.ListN.{length}
 use Prim.Native.Nat.{◌+◌, ◌*◌, ◌≤◌}
 use Rattle.chip.specs.Format.{cells}
-use mathlib.Core.Path.{◌≡◌, refl, sym, ◌∙◌}
-use native.Mathlib.Omega.{arith}
+use mathlib.Core.Path.{◌≡◌}
 use Rattle.netlist.proofs.read_cells.Given as goal
 
 abbrev pub invariant-loop-left : goal.invariant-loop-left

@@ -4,12 +4,9 @@ use Rattle.netlist.proofs.Laws.{inputs_more, inputs_stop, inputs_done, front_mor
 use Rattle.fields.specs.Steps.{says}
 use Rattle.chip.specs.Got.{got}
 use Prim.Native.Nat.{ℕ}
-use mathlib.Core.List.{[]}
-use Rattle.chip.specs.Format.{inputs}
 use lib.Seq.{drop-set-lt}
-use borrow.Author.Rules.{rules}
-use lib.ListN.{length, take, drop, length-set}
-use Prim.Native.Nat.{◌+◌, ◌<◌}
+use lib.ListN.{length, take, length-set}
+use Prim.Native.Nat.{◌<◌}
 use mathlib.Core.Path.{◌≡◌, refl, sym, ap, ◌∙◌}
 use native.Mathlib.Omega.{arith}
 use Rattle.netlist.proofs.read_inputs.Goals as goal

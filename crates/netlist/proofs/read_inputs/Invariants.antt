@@ -1,16 +1,8 @@
-use Rattle.fields.proofs.Laws.{told, below}
-use Rattle.netlist.proofs.Laws.{inputs_more, inputs_stop, inputs_done, front_more}
-use Rattle.fields.specs.Steps.{says}
-use Rattle.chip.specs.Got.{got}
-use Prim.Native.Nat.{ℕ}
 use mathlib.Core.List.{[]}
 use Rattle.chip.specs.Format.{inputs}
-use lib.Seq.{drop-set-lt}
-use borrow.Author.Rules.{rules}
-use lib.ListN.{length, take, drop, length-set}
-use Prim.Native.Nat.{◌+◌, ◌<◌}
-use mathlib.Core.Path.{◌≡◌, refl, sym, ap, ◌∙◌}
-use native.Mathlib.Omega.{arith}
+use lib.ListN.{length, take, drop}
+use Prim.Native.Nat.{◌+◌}
+use mathlib.Core.Path.{◌≡◌}
 use Rattle.netlist.proofs.read_inputs.Given as goal
 
 abbrev pub invariant-loop-left : goal.invariant-loop-left

@@ -3,10 +3,8 @@ use Rattle.fields.proofs.Laws.{told, below}
 use Rattle.netlist.proofs.Laws.{outputs_more, outputs_stop, outputs_stop_net, outputs_done, front_more}
 use Rattle.fields.specs.Steps.{says}
 use lib.Seq.{drop-set-lt}
-use Rattle.chip.specs.Format.{outputs}
-use borrow.Author.Rules.{rules}
-use lib.ListN.{length, take, drop, length-set}
-use Prim.Native.Nat.{◌+◌, ◌*◌, ◌<◌}
+use lib.ListN.{length, length-set}
+use Prim.Native.Nat.{◌+◌, ◌<◌}
 use mathlib.Core.Path.{◌≡◌, refl, sym, ◌∙◌}
 use native.Mathlib.Omega.{arith}
 use Rattle.netlist.proofs.read_outputs.Goals as goal

@@ -1,13 +1,7 @@
-use Rattle.fields.proofs.Laws.{told, below}
-use Rattle.netlist.proofs.Laws.{outputs_more, outputs_stop, outputs_stop_net, outputs_done, front_more}
-use Rattle.fields.specs.Steps.{says}
-use lib.Seq.{drop-set-lt}
 use Rattle.chip.specs.Format.{outputs}
-use borrow.Author.Rules.{rules}
-use lib.ListN.{length, take, drop, length-set}
-use Prim.Native.Nat.{◌+◌, ◌*◌, ◌<◌}
-use mathlib.Core.Path.{◌≡◌, refl, sym, ◌∙◌}
-use native.Mathlib.Omega.{arith}
+use lib.ListN.{length, take, drop}
+use Prim.Native.Nat.{◌+◌, ◌*◌}
+use mathlib.Core.Path.{◌≡◌}
 use Rattle.netlist.proofs.read_outputs.Given as goal
 
 abbrev pub invariant-loop-left : goal.invariant-loop-left

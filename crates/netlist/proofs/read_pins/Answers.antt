@@ -2,10 +2,8 @@
 use Prim.Native.Nat.{◌<◌}
 use lib.Seq.{drop-set-lt}
 use Rattle.netlist.proofs.Laws.{pins_more, pins_stop, pins_done, front_more}
-use Rattle.chip.specs.Format.{pins}
-use borrow.Author.Rules.{rules}
-use lib.ListN.{length, take, drop, length-set}
-use Prim.Native.Nat.{◌+◌, ◌*◌}
+use lib.ListN.{length, length-set}
+use Prim.Native.Nat.{◌+◌}
 use Rattle.fields.specs.Steps.{says, Below}
 use Rattle.fields.specs.declared.Num.{Num}
 use mathlib.Core.Path.{◌≡◌, refl, sym, ap, ◌∙◌, subst}

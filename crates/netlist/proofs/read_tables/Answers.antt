@@ -4,7 +4,6 @@ use Rattle.netlist.proofs.Laws.{ran, cells_told, cells_kept, end_read}
 use Rattle.chip.specs.Format.{read_of}
 use Rattle.fields.specs.Steps.{says}
 use native.Mathlib.Omega.{arith}
-use borrow.Author.Rules.{rules}
 use Rattle.netlist.proofs.read_tables.Goals as goal
 
 pub returns-in-Refused : goal.returns-in-Refused

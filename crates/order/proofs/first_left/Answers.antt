@@ -1,8 +1,5 @@
 -- All cells below j have a place, so the first one without a place is the lowest.
-use Prim.Native.Nat.{ℕ, ◌-◌, ◌≤◌, ◌<◌}
 use native.Mathlib.Omega.{arith}
-use lib.ListN.{get_or}
-use borrow.Author.Rules.{rules}
 use borrow.Author.Count.{below_more}
 use Rattle.order.proofs.first_left.Goals as goal
 

@@ -1,11 +1,10 @@
 -- After j cells p is the sum of their pin counts, so it is the first pin of cell j and goes to entry j.
-use Prim.Native.Nat.{◌+◌, ◌-◌, ◌≤◌}
+use Prim.Native.Nat.{◌+◌, ◌≤◌}
 use mathlib.Core.Path.{◌≡◌, refl}
 use native.Mathlib.Omega.{arith}
-use lib.ListN.{get_or, length, length-set}
-use borrow.Author.Rules.{rules}
+use lib.ListN.{get_or, length-set}
 use Rattle.chip.specs.Netlist.{sum_below}
-use Rattle.order.proofs.Order.{FirstsTo, sum_more, sum_within, firsts_start, firsts_more}
+use Rattle.order.proofs.Order.{sum_more, sum_within, firsts_start, firsts_more}
 use Rattle.order.proofs.first_pins.Goals as goal
 use Rattle.order.proofs.first_pins.Goals.{After-wide8-p}
 

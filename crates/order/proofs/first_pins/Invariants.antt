@@ -1,10 +1,8 @@
-use Prim.Native.Nat.{◌+◌, ◌-◌, ◌≤◌}
-use mathlib.Core.Path.{◌≡◌, refl}
-use native.Mathlib.Omega.{arith}
-use lib.ListN.{get_or, length, length-set}
-use borrow.Author.Rules.{rules}
+use Prim.Native.Nat.{◌-◌, ◌≤◌}
+use mathlib.Core.Path.{◌≡◌}
+use lib.ListN.{get_or, length}
 use Rattle.chip.specs.Netlist.{sum_below}
-use Rattle.order.proofs.Order.{FirstsTo, sum_more, sum_within, firsts_start, firsts_more}
+use Rattle.order.proofs.Order.{FirstsTo}
 use Rattle.order.proofs.first_pins.Given as goal
 
 abbrev pub invariant-loop-j : goal.invariant-loop-j

@@ -1,6 +1,5 @@
 -- The test for an input is that of `fed`, and any other net is fed exactly if its cell's entry is above 0.
 use borrow.Author.Tests.{lt-ltb, le-ltb}
-use borrow.Author.Rules.{rules}
 use Rattle.order.proofs.is_fed.Goals as goal
 
 pub returns-then-net-i : goal.returns-then-net-i

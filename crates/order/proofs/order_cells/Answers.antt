@@ -1,10 +1,7 @@
 -- The n cells placed stand after those that drive them, and where a pass places none the cells left wait for each other in a loop.
-use Prim.Native.Nat.{◌-◌}
 use mathlib.Core.Path.{refl}
 use native.Mathlib.Omega.{arith}
 use lib.ListN.{get_or-replicate}
-use borrow.Author.Rules.{rules}
-use Rattle.order.specs.Placed.{Placed}
 use Rattle.order.proofs.Order.{none_placed, ordered, looped}
 use Rattle.order.proofs.order_cells.Goals as goal
 

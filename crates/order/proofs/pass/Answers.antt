@@ -1,11 +1,9 @@
 -- A cell takes the next place only once its pins are fed, and if none takes one, each cell without a place has a pin that is not fed.
-use Prim.Native.Nat.{ℕ, ◌-◌, ◌≤◌, ◌<◌}
+use Prim.Native.Nat.{ℕ, ◌≤◌, ◌<◌}
 use mathlib.Core.Path.{◌≡◌}
 use native.Mathlib.Omega.{arith}
 use lib.ListN.{get_or}
-use borrow.Author.Rules.{rules}
-use borrow.Author.Tests.{not-true, not-false}
-use Rattle.order.specs.Placed.{PinAt, Passed}
+use Rattle.order.specs.Placed.{PinAt}
 use Rattle.order.proofs.Listed.{free}
 use Rattle.order.proofs.Order.{one_more, pass_start, pass_kept, pass_more}
 use Rattle.order.proofs.pass.Goals as goal

@@ -1,12 +1,5 @@
-use Prim.Native.Nat.{ℕ, ◌-◌, ◌≤◌, ◌<◌}
-use mathlib.Core.Path.{◌≡◌}
-use native.Mathlib.Omega.{arith}
-use lib.ListN.{get_or}
-use borrow.Author.Rules.{rules}
-use borrow.Author.Tests.{not-true, not-false}
-use Rattle.order.specs.Placed.{PinAt, Passed}
-use Rattle.order.proofs.Listed.{free}
-use Rattle.order.proofs.Order.{one_more, pass_start, pass_kept, pass_more}
+use Prim.Native.Nat.{◌-◌, ◌≤◌}
+use Rattle.order.specs.Placed.{Passed}
 use Rattle.order.proofs.pass.Given as goal
 
 abbrev pub invariant-loop-j : goal.invariant-loop-j

@@ -1,13 +1,8 @@
 -- All pins before p name nets that are fed, so the first that does not decides for no, and the end for yes.
-use Prim.Native.Nat.{ℕ, ◌-◌, ◌≤◌, ◌<◌}
+use Prim.Native.Nat.{ℕ}
 use mathlib.Core.Path.{◌≡◌}
-use mathlib.Core.Bool.{true}
 use native.Mathlib.Omega.{arith}
-use lib.ListN.{get_or}
-use borrow.Author.Rules.{rules}
-use borrow.Author.Tests.{not-true, not-false}
 use borrow.Author.Count.{below_more}
-use Rattle.order.specs.Placed.{fed}
 use Rattle.order.proofs.ready.Goals as goal
 
 pub loop-p-init : goal.loop-p-init

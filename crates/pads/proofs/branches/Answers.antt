@@ -1,11 +1,5 @@
 -- The sources of the nets give each pin its input, and leaving out the pins into pad buffers makes it the branch table.
 use mathlib.Core.Path.{refl}
-use borrow.Author.Rules.{rules}
-use Rattle.pads.proofs.branches.Reads as reads
-use Rattle.pads.proofs.branches.Lts as lts
-use Rattle.pads.proofs.leave_out.Reads as leave-out-reads
-use Rattle.pads.proofs.pin_sources.Reads as pin-sources-reads
-use Rattle.pads.proofs.sources.Reads as sources-reads
 use Rattle.pads.proofs.branches.Goals as goal
 
 pub sources-requires : goal.sources-requires

@@ -1,7 +1,6 @@
 -- Only a BUF that is fed by an input's source takes that source over, and the three ways are the cases of the definition.
 use mathlib.Core.Path.{sym}
 use native.Mathlib.Omega.{arith}
-use borrow.Author.Rules.{rules}
 use Rattle.pads.proofs.Laws.{gives_fed, gives_own, gives_other}
 use Rattle.pads.proofs.cell_source.Goals as goal
 

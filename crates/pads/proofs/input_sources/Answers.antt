@@ -1,12 +1,8 @@
 -- After x steps the first x entries are their own numbers, and a step writes x at entry x.
-use Prim.Native.Nat.{ℕ, ◌-◌, ◌≤◌, ◌<◌}
 use mathlib.Core.Path.{◌≡◌, refl}
 use native.Mathlib.Omega.{arith}
-use borrow.Author.Rules.{rules}
-use lib.ListN.{length, get_or, length-set}
+use lib.ListN.{length-set}
 use Rattle.chip.proofs.Entries.{entry_more}
-use Rattle.pads.proofs.input_sources.Reads as reads
-use Rattle.pads.proofs.input_sources.Lts as lts
 use Rattle.pads.proofs.input_sources.Goals as goal
 
 pub loop-x-preserved : goal.loop-x-preserved

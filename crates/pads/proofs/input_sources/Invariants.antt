@@ -1,11 +1,6 @@
 use Prim.Native.Nat.{ℕ, ◌-◌, ◌≤◌, ◌<◌}
-use mathlib.Core.Path.{◌≡◌, refl}
-use native.Mathlib.Omega.{arith}
-use borrow.Author.Rules.{rules}
-use lib.ListN.{length, get_or, length-set}
-use Rattle.chip.proofs.Entries.{entry_more}
-use Rattle.pads.proofs.input_sources.Reads as reads
-use Rattle.pads.proofs.input_sources.Lts as lts
+use mathlib.Core.Path.{◌≡◌}
+use lib.ListN.{length, get_or}
 use Rattle.pads.proofs.input_sources.Given as goal
 
 abbrev pub invariant-loop-x : goal.invariant-loop-x

@@ -1,16 +1,6 @@
-use Prim.Native.Nat.{◌+◌, ◌-◌, ◌≤◌, ◌<◌}
-use mathlib.Core.Path.{◌≡◌, ◌∙◌}
-use mathlib.Core.Logic.{⊎_elim}
-use native.Mathlib.Omega.{arith}
-use borrow.Author.Rules.{rules}
-use Rattle.chip.specs.Netlist.{Netlist, first_pin}
+use Prim.Native.Nat.{◌-◌, ◌≤◌}
 use Rattle.chip.specs.Inner.Tables.{tabled}
-use Rattle.chip.specs.Pads.{source}
-use Rattle.chip.proofs.Basics.{pin_in, first_pin_lem}
-use Rattle.pads.proofs.Laws.{LeftOut, left_start, left_skip, left_more, left_all}
-use Rattle.pads.proofs.leave_out.Reads as reads
-use Rattle.pads.proofs.leave_out.Lts as lts
-use Rattle.chip.proofs.wide.Reads as wide-reads
+use Rattle.pads.proofs.Laws.{LeftOut}
 use Rattle.pads.proofs.leave_out.Given as goal
 
 abbrev pub invariant-loop-j : goal.invariant-loop-j

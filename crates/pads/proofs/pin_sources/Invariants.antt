@@ -1,15 +1,8 @@
-use Prim.Native.Nat.{ℕ, ◌+◌, ◌-◌, ◌≤◌, ◌<◌}
-use mathlib.Core.Path.{◌≡◌, ap, ◌∙◌}
-use native.Mathlib.Omega.{arith}
-use borrow.Author.Rules.{rules}
-use lib.ListN.{length, get_or, length-set}
-use Rattle.chip.specs.Netlist.{Netlist}
+use Prim.Native.Nat.{ℕ, ◌-◌, ◌≤◌, ◌<◌}
+use mathlib.Core.Path.{◌≡◌}
+use lib.ListN.{length, get_or}
 use Rattle.chip.specs.Inner.Tables.{tabled}
 use Rattle.chip.specs.Pads.{source}
-use Rattle.chip.proofs.Entries.{entry_more}
-use Rattle.pads.proofs.pin_sources.Reads as reads
-use Rattle.pads.proofs.pin_sources.Lts as lts
-use Rattle.chip.proofs.wide.Reads as wide-reads
 use Rattle.pads.proofs.pin_sources.Given as goal
 
 abbrev pub invariant-loop-p : goal.invariant-loop-p

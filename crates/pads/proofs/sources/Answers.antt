@@ -1,7 +1,4 @@
 -- Once each input is its own source, the cells in their order complete the table of all nets.
-use borrow.Author.Rules.{rules}
-use Rattle.pads.proofs.cell_sources.Reads as cell-sources-reads
-use Rattle.pads.proofs.input_sources.Reads as input-sources-reads
 use Rattle.pads.proofs.sources.Goals as goal
 
 pub cell_sources-requires : goal.cell_sources-requires

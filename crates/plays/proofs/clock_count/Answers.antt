@@ -1,6 +1,5 @@
 -- A length that i does not divide is no play and gives 1,025, else the quotient is the number of clocks.
 use native.Mathlib.Omega.{arith}
-use borrow.Author.Rules.{rules}
 use Rattle.plays.proofs.Checked.{ragged, counted}
 use Rattle.plays.proofs.clock_count.Goals as goal
 

@@ -1,9 +1,6 @@
 -- All bytes before k are at most 1, so the byte that ends the loop is the first above 1, and without one k is the length.
-use Prim.Native.Nat.{ℕ, ◌-◌, ◌≤◌, ◌<◌}
 use native.Mathlib.Omega.{arith}
 use borrow.Author.Count.{below_more}
-use borrow.Author.Rules.{rules}
-use lib.ListN.{length, get_or}
 use Rattle.plays.proofs.Checked.{found_above, none_above}
 use Rattle.plays.proofs.first_above_one.Goals as goal
 

@@ -1,9 +1,5 @@
 use Prim.Native.Nat.{ℕ, ◌-◌, ◌≤◌, ◌<◌}
-use native.Mathlib.Omega.{arith}
-use borrow.Author.Count.{below_more}
-use borrow.Author.Rules.{rules}
 use lib.ListN.{length, get_or}
-use Rattle.plays.proofs.Checked.{found_above, none_above}
 use Rattle.plays.proofs.first_above_one.Given as goal
 
 abbrev pub invariant-loop-k : goal.invariant-loop-k

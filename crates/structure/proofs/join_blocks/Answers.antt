@@ -1,5 +1,5 @@
 -- `structure::join_blocks` keeps its contract: the depths passed are joined and their conflicts known, and the first depth that nothing reaches is one more than the depth.
-use Prim.Native.Nat.{ℕ, ◌-◌, ◌^◌, ◌≤◌, ◌<◌}
+use Prim.Native.Nat.{ℕ, ◌-◌, ◌^◌, ◌<◌}
 use native.Mathlib.Omega.{arith}
 use borrow.Author.Rules.{rules}
 use lib.ListN.{replicate}
@@ -8,11 +8,10 @@ use Rattle.chip.proofs.Basics.{zero_at}
 use Rattle.chip.proofs.Plain.{within_branches}
 use Rattle.order.proofs.Order.{ranked_of}
 use Rattle.levels.proofs.Masks.{first_before}
-use Rattle.blocks.specs.Labels.{label_of}
 use Rattle.blocks.proofs.Labels.{single_labels}
 use Rattle.balance.proofs.Inputs.{inputs_conflict, inputs_seen}
-use Rattle.structure.proofs.Joining.{Joining, joining_start, joining_kept, joining_more, joining_later, joining_depth, joining_deep}
-use Rattle.structure.proofs.Evenness.{Evening, evening_start, evening_more, evening_done, branches_own}
+use Rattle.structure.proofs.Joining.{joining_start, joining_kept, joining_more, joining_later, joining_depth, joining_deep}
+use Rattle.structure.proofs.Evenness.{evening_start, evening_more, evening_done, branches_own}
 use Rattle.structure.proofs.join_blocks.Goals as goal
 use Rattle.structure.proofs.join_blocks.Goals.{After-deeper-outs, After-keep}
 

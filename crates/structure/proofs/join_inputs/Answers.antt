@@ -1,5 +1,4 @@
 -- `structure::join_inputs` keeps its contract: where no input's net reaches an output no branch does, and there is nothing to join.
-use borrow.Author.Rules.{rules}
 use native.Mathlib.Omega.{arith}
 use Rattle.order.proofs.Order.{ranked_of}
 use Rattle.balance.proofs.Inputs.{no_branch}

@@ -1,5 +1,5 @@
 -- `structure::lowest_uneven` keeps its contract: the lowest conflict of the depths passed is known, and at the end no branch reaches an output any deeper.
-use Prim.Native.Nat.{ℕ, ◌+◌, ◌-◌, ◌≤◌}
+use Prim.Native.Nat.{ℕ}
 use native.Mathlib.Omega.{arith}
 use lib.ListN.{replicate}
 use Rattle.chip.specs.Inner.Tables.{sized}
@@ -7,7 +7,7 @@ use Rattle.chip.proofs.Basics.{zero_at}
 use Rattle.chip.proofs.Plain.{within_branches}
 use Rattle.levels.proofs.Masks.{first_before}
 use Rattle.order.proofs.Order.{ranked_of}
-use Rattle.structure.proofs.Evenness.{Evening, evening_start, evening_more, evening_done}
+use Rattle.structure.proofs.Evenness.{evening_start, evening_more, evening_done}
 use Rattle.structure.proofs.lowest_uneven.Goals as goal
 
 pub loop-e-init : goal.loop-e-init

@@ -1,12 +1,6 @@
-use Prim.Native.Nat.{ℕ, ◌+◌, ◌-◌, ◌≤◌}
-use native.Mathlib.Omega.{arith}
-use lib.ListN.{replicate}
+use Prim.Native.Nat.{◌+◌, ◌-◌, ◌≤◌}
 use Rattle.chip.specs.Inner.Tables.{sized}
-use Rattle.chip.proofs.Basics.{zero_at}
-use Rattle.chip.proofs.Plain.{within_branches}
-use Rattle.levels.proofs.Masks.{first_before}
-use Rattle.order.proofs.Order.{ranked_of}
-use Rattle.structure.proofs.Evenness.{Evening, evening_start, evening_more, evening_done}
+use Rattle.structure.proofs.Evenness.{Evening}
 use Rattle.structure.proofs.lowest_uneven.Given as goal
 
 abbrev pub invariant-loop-e : goal.invariant-loop-e

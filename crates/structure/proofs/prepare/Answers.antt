@@ -1,5 +1,4 @@
 -- `structure::prepare` keeps its contract: with its first pins, its order and its branches the netlist is ready for the steps behind, and without an order it has the loop that is named.
-use borrow.Author.Rules.{rules}
 use mathlib.Core.Path.{refl}
 use Rattle.chip.specs.Netlist.{Netlist}
 use Rattle.chip.specs.Inner.Tables.{sized, FirstPins}

@@ -1,5 +1,4 @@
 -- `structure::prepare_ordered` keeps its contract: the blocks are numbered by the lowest pins that the depths joined, and their labels decide the class.
-use borrow.Author.Rules.{rules}
 use Rattle.order.proofs.Order.{order_free}
 use Rattle.structure.proofs.Preparing.{depth_over, depth_of, blocks_few, blocks_one, shaped}
 use Rattle.structure.proofs.prepare_ordered.Goals as goal

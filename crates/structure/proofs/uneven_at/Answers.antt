@@ -1,5 +1,4 @@
 -- `structure::uneven_at` keeps its contract: where no input's net reaches an output no branch does, and so there is no conflict and no label is seen at one.
-use borrow.Author.Rules.{rules}
 use Prim.Native.Nat.{◌+◌}
 use native.Mathlib.Omega.{arith}
 use Rattle.order.proofs.Order.{ranked_of}

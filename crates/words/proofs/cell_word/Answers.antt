@@ -1,5 +1,4 @@
 -- The first pin and the pin count are read from the tables of cell j and widened, so the gate's word is the cell's.
-use borrow.Author.Rules.{rules}
 use Rattle.words.proofs.cell_word.Goals as goal
 
 pub gate_word-requires : goal.gate_word-requires

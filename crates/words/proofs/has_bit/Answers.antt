@@ -1,5 +1,4 @@
 -- Bit k of a word is the lowest bit of the word shifted right by k, so whether that is odd.
-use borrow.Author.Rules.{rules}
 use mathlib.Core.Path.{sym}
 use Rattle.words.proofs.Bits.{digit_shift}
 use Rattle.words.proofs.has_bit.Goals as goal

@@ -1,8 +1,5 @@
-use native.Mathlib.Omega.{arith}
-use borrow.Author.Rules.{rules}
 use mathlib.Core.Path.{◌≡◌}
 use Prim.Native.Nat.{◌≤◌, ◌-◌, ◌^◌}
-use native.Mathlib.Numerals.{add-one}
 use lib.Bits.{bit_and, bit_or, bit_xor}
 use Rattle.words.specs.Lanes.{joined, on_pin}
 use Rattle.words.proofs.join_pins.Given as goal

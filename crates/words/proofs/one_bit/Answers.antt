@@ -1,5 +1,4 @@
 -- A one shifted left by k below 64 loses no bit, so the word is the power 2 ^ k.
-use borrow.Author.Rules.{rules}
 use mathlib.Core.Path.{◌∙◌}
 use Prim.Native.Nat.{◌^◌}
 use native.Mathlib.Nat.{one-mul}

@@ -1,5 +1,4 @@
 -- The six lowest bits of 64 * chunk + l are those of l, and the bits above are the chunk's, the same in all lanes.
-use borrow.Author.Rules.{rules}
 use mathlib.Core.Path.{sym, ◌∙◌}
 use Rattle.words.proofs.Bits.{digit_zero, digit_ones}
 use Rattle.words.proofs.Pattern.{low_bits, high_bits}

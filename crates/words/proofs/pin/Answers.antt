@@ -1,5 +1,4 @@
 -- The slot that is read is the one that sources names for the pin, so the word is the definition's own.
-use borrow.Author.Rules.{rules}
 use Rattle.words.proofs.pin.Goals as goal
 
 pub returns : goal.returns

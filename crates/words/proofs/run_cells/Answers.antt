@@ -1,11 +1,10 @@
 -- After t cells the slots are those of the definition's run of t cells, and each step writes the slot of one cell more.
-use borrow.Author.Rules.{rules}
-use Prim.Native.Nat.{◌+◌, ◌-◌, ◌≤◌, ◌<◌}
+use Prim.Native.Nat.{◌+◌, ◌<◌}
 use mathlib.Core.Path.{◌≡◌, ap, ◌∙◌}
 use native.Mathlib.Numerals.{add-one}
 use native.Mathlib.Omega.{arith}
 use lib.ListN.{length, get_or}
-use Rattle.words.specs.Lanes.{wired, ran_words}
+use Rattle.words.specs.Lanes.{wired}
 use Rattle.words.proofs.Lanes.{ran_length, ran_more}
 use Rattle.words.proofs.run_cells.Goals as goal
 use Rattle.words.proofs.run_cells.Goals.{After-wide-j}

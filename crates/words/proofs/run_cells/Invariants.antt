@@ -1,11 +1,7 @@
-use borrow.Author.Rules.{rules}
-use Prim.Native.Nat.{◌+◌, ◌-◌, ◌≤◌, ◌<◌}
-use mathlib.Core.Path.{◌≡◌, ap, ◌∙◌}
-use native.Mathlib.Numerals.{add-one}
-use native.Mathlib.Omega.{arith}
-use lib.ListN.{length, get_or}
+use Prim.Native.Nat.{◌-◌, ◌≤◌}
+use mathlib.Core.Path.{◌≡◌}
+use lib.ListN.{get_or}
 use Rattle.words.specs.Lanes.{wired, ran_words}
-use Rattle.words.proofs.Lanes.{ran_length, ran_more}
 use Rattle.words.proofs.run_cells.Given as goal
 
 abbrev pub invariant-loop-t : goal.invariant-loop-t
