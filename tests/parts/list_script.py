@@ -1,13 +1,12 @@
 """The script `./list`: its statuses, what it writes and when it builds, in a copy whose `rt` proves nothing."""
 
 import os
-import socket
+import shutil
 import subprocess
 import tempfile
 from pathlib import Path
 
 from parts.examples import LISTING_FILE, chain_of, cone_of
-from parts.streams import full_disk, unread_pipe
 from simulator import programs
 from simulator.modes import FIRST
 from simulator.reading import BUF, DFF, NOT, XOR, file_of
@@ -18,9 +17,6 @@ GOOD = {"sample": LISTING_FILE, "two words": file_of(2, [(XOR, 0, 1)], [2]), "de
         "dead": file_of(1, [(NOT, 0)], [0])}
 REFUSED = {"empty": b"", "loop": file_of(1, [(DFF, 1)], [1]),
            "class 1": file_of(1, [(DFF, 0), (BUF, 1), (DFF, 1), (XOR, 2, 3)], [4])}
-
-UNWRITTEN = "list: the lines cannot be written\n"
-PIPE = 65536  # bytes that a pipe holds
 
 
 class Script:
@@ -39,25 +35,22 @@ class Script:
         return path
 
     def case(self, text, words, wrote, status, says="", asks=0, **given):
-        """A run: what it writes and its status, what it says on standard error, and how often rt is asked to build.
-        What it says is all of it if it ends a line, and else a part."""
+        """A run: what it writes and its status, what it says on standard error, and how often rt is asked to build."""
         got, said, ended = self.bench.run(*words, **given)
         self.tally.equal((wrote, status), (got, ended), lambda: f"{text}\n  said   {said}")
-        heard = says in said if says and not says.endswith("\n") else says == said
+        heard = says in said if says else not said
         self.tally.case(heard, lambda: f"{text}: wanted to hear {says or 'nothing'}\n  said   {said}")
-        wanted = [f"{self.bench.top}: check listing"] * asks
+        wanted = [f"{self.bench.top}/crates/listing: run"] * asks
         self.tally.equal(wanted, self.bench.asked(), lambda: f"{text}: what rt was asked")
 
     def arguments(self):
         """Wrong use and help need no program: the copy has none."""
-        self.bench.program("listing").unlink()
+        shutil.rmtree(self.bench.program("listing").parent)
         text = self.bench.run(self.script, "--help")[0]
         for part in ("usage: ./list NETLIST\n", "takes minutes", "status 0 ", *(f"\n       {k} " for k in (1, 2, 3))):
             self.tally.case(part.encode() in text, lambda: f"--help has no {part!r}")
         for word in ("--help", "-h"):
             self.case(word, [self.script, word], text, 0)
-        with full_disk() as full:
-            self.case("help that cannot be written", [self.script, "--help"], None, 3, UNWRITTEN, stdout=full)
         for words in ([], ["samples/listing.net"] * 2, ["--help", "me"]):
             self.case(f"words {words}", [self.script, *words], b"", 2, "usage: ./list NETLIST")
         missing, folder = self.files / "missing", self.files
@@ -65,10 +58,6 @@ class Script:
         self.case("no name", [self.script, ""], b"", 2, "there is no such file")
         self.case("an option", [self.script, "--all"], b"", 2, "--all: there is no such file")
         self.case("a directory", [self.script, folder], b"", 2, f"{folder}: a directory is no netlist")
-        door = self.files / "door"
-        with socket.socket(socket.AF_UNIX) as listening:
-            listening.bind(str(door))
-        self.case("a socket", [self.script, door], b"", 2, f"list: {door}: the file cannot be read\n")
         locked = self.file("locked", LISTING_FILE)
         locked.chmod(0)
         if not os.access(locked, os.R_OK):  # root reads every file
@@ -80,10 +69,10 @@ class Script:
         built = self.file("built", programs.built("listing").read_bytes())
         built.chmod(0o755)
         run = [self.script, sample]
-        self.case("a build that fails", run, b"", 3, "rt check listing failed", asks=1)
+        self.case("a build that fails", run, b"", 3, "rt run in crates/listing failed", asks=1)
         self.bench.rt("exit 0")
-        self.case("a build without a program", run, b"", 3, "made no target/bin/listing", asks=1)
-        self.bench.rt(f'mkdir -p target/bin && cp "{built}" target/bin/listing')
+        self.case("a build without a program", run, b"", 3, "made no crates/listing/out/listing", asks=1)
+        self.bench.rt(f'mkdir out && cp "{built}" out/listing')
         self.case("the first build", run, text, 0, "The first run builds the program listing", asks=1)
         self.case("a run after the build", run, text, 0)
         self.bench.rt("exit 0")  # as where the sources say the same as before: the program stays as it is
@@ -91,13 +80,17 @@ class Script:
             self.bench.set_times(newer=self.bench.top / name)
             self.case(f"{name} is newer", run, text, 0, "A source is newer than the program listing", asks=1)
             self.case(f"a run after {name} was newer", run, text, 0)
-        self.bench.rt("touch crates.txt -d '+1 hour'")
+        made = self.bench.write(self.bench.top / "crates/calls/out/made", "")
+        for path in (made, made.parent, made.parent.parent):  # as rt leaves them, which makes out/ and writes in it
+            self.bench.set_times(newer=path)
+            self.case(f"{path.relative_to(self.bench.top)} is newer", run, text, 0)
+        self.bench.rt("touch ../../crates.txt -d '+1 hour'")
         self.bench.set_times(newer=self.bench.top / "crates.txt")
         self.case("a source is written during the build", run, text, 0, "A source is newer", asks=1)
         self.case("a run after that", run, text, 0, "A source is newer", asks=1)
         self.bench.rt("exit 1")
         self.bench.set_times(newer=self.bench.top / "crates.txt")
-        self.case("a build that fails over an old program", run, b"", 3, "rt check listing failed", asks=1)
+        self.case("a build that fails over an old program", run, b"", 3, "rt run in crates/listing failed", asks=1)
         self.bench.set_times()
 
     def netlists(self):
@@ -125,29 +118,11 @@ class Script:
         self.case("by the path", ["lister", sample], text, 0, folder="/")
         with sample.open("rb") as given:
             self.case("standard input", [self.script, "/dev/stdin"], text, 0, stdin=given)
-
-    def streams(self):
-        """Lines that cannot be written, before the first or behind it, and a file that opens and cannot be read."""
-        for name, data in (GOOD | REFUSED).items():
-            words = [self.script, self.file(name, data)]
-            for out_as in (full_disk, unread_pipe):
-                with out_as() as out:
-                    self.case(f"{name}, {out_as.__name__}", words, None, 3, UNWRITTEN, stdout=out)
-        text = FIRST.listing(GOOD["deep"])
-        self.tally.case(len(text) > 2 * PIPE, lambda: f"a pipe may hold {len(text)} bytes")
-        words = ["bash", "-c", '"$0" "$1" | head -n 1; exit "${PIPESTATUS[0]}"', self.script, self.files / "deep"]
-        self.case("a pipe that is read for one line", words, text[:text.index("\n") + 1].encode(), 3, UNWRITTEN)
-        self.case("a file that fails", [self.script, "/proc/self/mem"], b"", 2, "standard input cannot be read\n")
-
-    def runner(self):
-        """The script that runs a program: a pipe that nobody reads, a program that cannot run, wrong use."""
-        words = [self.bench.top / "tools/run-program", "listing"]
-        with (self.files / "sample").open("rb") as given, unread_pipe() as out:
-            self.case("a program on a pipe that nobody reads", words, None, 0, "standard output cannot be written\n",
-                      stdin=given, stdout=out)
+        with open("/dev/full", "wb") as full:
+            self.case("lines that cannot be written", [self.script, sample], None, 3, "write error", stdout=full)
         self.file("broken", b"").replace(self.bench.program("listing"))
         self.bench.program("listing").chmod(0o755)
-        self.case("a program that cannot run", [self.script, self.files / "sample"], b"", 3, "listing")
+        self.case("a program that cannot run", [self.script, sample], b"", 3, "listing")
         for words in ([], ["nothing"], ["listing", "twice"]):
             self.case(f"tools/run-program {words}", [self.bench.top / "tools/run-program", *words], b"", 2, "usage: ")
 
@@ -157,7 +132,7 @@ def parts(_):
     with tempfile.TemporaryDirectory() as room:
         try:
             script = Script(tally, room)
-            for cases in (script.arguments, script.builds, script.netlists, script.ways, script.streams, script.runner):
+            for cases in (script.arguments, script.builds, script.netlists, script.ways):
                 cases()
         except (programs.NoProgram, subprocess.TimeoutExpired) as problem:
             tally.fail(str(problem))

@@ -1,8 +1,7 @@
-"""Starting a built program with the loader and C library of the kit, as `rt` does."""
+"""Starting a built program with the loader and C library of the kit, as `tools/run-program` does."""
 
 import contextlib
 import os
-import platform
 import shutil
 import subprocess
 import tempfile
@@ -20,33 +19,28 @@ class NoProgram(Exception):
 
 def kit_home():
     """The folder of the kit."""
-    if "RATTLE_HOME" in os.environ:
-        return Path(os.environ["RATTLE_HOME"])
     if shutil.which("rt"):
         return Path(os.path.realpath(shutil.which("rt"))).parent.parent
     raise NoProgram("rt is not on the path, so there is no loader to start programs with")
 
 
+def place(name):
+    """The file of a program, from the top of the repository."""
+    return Path("crates") / name / "out" / name
+
+
 def built(name):
-    """The file of a program."""
-    program = ROOT / "target" / "bin" / name
+    """The file of a program, which must be built."""
+    program = ROOT / place(name)
     if not program.exists():
-        raise NoProgram(f"target/bin/{name} is missing")
+        raise NoProgram(f"{place(name)} is missing")
     return program
 
 
 def start_words(name):
-    """The words that start a program: an emulator where the machine needs one, the loader, the program."""
-    program = built(name)
-    tools = kit_home() / "on" / platform.machine() / "toolchain"
-    emulator = tools / "bin" / "qemu-x86_64"
-    words = [tools / "lib" / "ld-linux-x86-64.so.2", "--library-path", tools / "lib", program]
-    return ([emulator] if os.access(emulator, os.X_OK) else []) + words
-
-
-def environment():
-    """The environment of a program: nothing in it is for the emulator."""
-    return {key: value for key, value in os.environ.items() if not key.startswith("QEMU_")}
+    """The words that start a program: the loader of the kit, where its C library lies, the program."""
+    tools = kit_home() / "toolchain" / "lib"
+    return [tools / "ld-linux-x86-64.so.2", "--library-path", tools, built(name)]
 
 
 def started(name, given, out=subprocess.PIPE, seconds=300, **more):
@@ -54,7 +48,7 @@ def started(name, given, out=subprocess.PIPE, seconds=300, **more):
     A write to a pipe that nobody reads fails: the signal is ignored in it as it is in Python."""
     try:
         ended = subprocess.run(list(map(str, start_words(name))), stdin=given, stdout=out, stderr=subprocess.PIPE,
-                               env=environment(), timeout=seconds, check=False, restore_signals=False, **more)
+                               timeout=seconds, check=False, restore_signals=False, **more)
     except subprocess.TimeoutExpired as late:
         raise NoProgram(f"{name} did not end in {seconds} s") from late
     return ended.stdout, ended.stderr, ended.returncode
@@ -87,7 +81,7 @@ class Dialogue:
 
     def __init__(self, name, seconds=60, stdout=subprocess.PIPE, stderr=subprocess.DEVNULL):
         self.program = subprocess.Popen(list(map(str, start_words(name))), stdin=subprocess.PIPE, stdout=stdout,
-                                        stderr=stderr, env=environment())
+                                        stderr=stderr)
         self.stopping = threading.Timer(seconds, self.program.kill)
         self.stopping.start()
 

@@ -1,5 +1,5 @@
 """A copy of what a person at the bench has: the scripts, the sample and the built programs, over sources that say
-nothing, with an `rt` that writes down what it is asked. So nothing is proved here, whatever the real sources' times."""
+nothing, with a kit whose `rt` writes down what it is asked. So nothing is proved here, whatever the real sources' times."""
 
 import os
 import shutil
@@ -19,8 +19,8 @@ class Workbench:
     def __init__(self, room):
         self.room = Path(room)
         self.top = self.room / "copy"
-        self.environment = programs.environment() | {
-            "PATH": f"{self.room / 'bin'}{os.pathsep}{os.environ['PATH']}", "RATTLE_HOME": str(programs.kit_home())}
+        self.environment = os.environ | {"PATH": f"{self.room / 'bin'}{os.pathsep}{os.environ['PATH']}"}
+        (self.room / "toolchain").symlink_to(programs.kit_home() / "toolchain")
         for name in (*SCRIPTS, "samples/listing.net"):
             self.copy(programs.ROOT / name, self.top / name)
         self.write(self.top / "crates.txt", "")
@@ -45,7 +45,7 @@ class Workbench:
         return self.top / "crates" / name / "src" / "main.rt"
 
     def program(self, name):
-        return self.top / "target" / "bin" / name
+        return self.top / programs.place(name)
 
     def set_times(self, newer=None):
         """All sources and folders are older than the programs, but for one that is newer."""
