@@ -1,3 +1,4 @@
+#![tactic(auto)]
 // Searches a play for a fault: refuses, or looks for it and answers what was found. Of an open chip one fault may be searched for, or all
 // looked for at once and then searched for one by one.
 ghost use Rattle.std.specs.Prelude.{◌≢◌, ◌+◌, ◌*◌, ◌<◌};
