@@ -2,7 +2,7 @@
 // A refusal has a number and a place, as 01 lists them, and writes nothing; the first refusal in the order below is given.
 // A call on a file first refuses what cannot be read (1 to 8), then a loop (9), then a depth over 255 (10). Who makes many calls on one
 // file opens it once; a call on an open chip asks only that the chip was opened, and refuses what comes after 10.
-// In a contract, r is the answer, .entry has the bytes as they are lent, and .exit those that the call leaves.
+// In a contract, result is the answer, .now and .old have the bytes as they are lent, and .new those that the call leaves.
 ghost use Rattle.std.specs.Prelude.{◌≡◌, ◌≢◌, List, ℕ, ◌+◌};
 ghost use Rattle.chip.specs.Format.{read_of};
 ghost use Rattle.chip.specs.Inner.Tables.{sized};

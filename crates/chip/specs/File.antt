@@ -1,4 +1,4 @@
--- 'The netlist file', written: the bytes of a netlist whose input x has pad inPad x, and whose output z has pad outPad z.
+-- 'The netlist file', written: the bytes of a netlist whose input x has pad in_pad x, and whose output z has pad out_pad z.
 use Rattle.std.specs.Prelude.{ℕ, zero, suc, ◌+◌, ◌/◌, ◌%◌, List, [], ◌∷◌, ◌++◌}
 use Rattle.chip.specs.Netlist.{Netlist, first_pin, out_pin}
 use Rattle.chip.specs.Class.{Blocks}
@@ -10,8 +10,8 @@ word n = n % 256 ∷ n / 256 ∷ []
 
 -- the first n inputs: a pad each
 abbrev pub inputs_file : (ℕ → ℕ) → ℕ → List ℕ
-inputs_file inPad zero = []
-inputs_file inPad (suc n) = inputs_file inPad n ++ inPad n ∷ []
+inputs_file in_pad zero = []
+inputs_file in_pad (suc n) = inputs_file in_pad n ++ in_pad n ∷ []
 
 -- n pins from pin a on: a net each
 abbrev pub pins_file : Netlist → ℕ → ℕ → List ℕ
@@ -25,17 +25,17 @@ cells_file N (suc j) = cells_file N j ++ N.kind j ∷ N.pins j ∷ pins_file N (
 
 -- the first n outputs: pad and net
 abbrev pub outputs_file : Netlist → (ℕ → ℕ) → ℕ → List ℕ
-outputs_file N outPad zero = []
-outputs_file N outPad (suc z) = outputs_file N outPad z ++ outPad z ∷ word (N.net (out_pin N z))
+outputs_file N out_pad zero = []
+outputs_file N out_pad (suc z) = outputs_file N out_pad z ++ out_pad z ∷ word (N.net (out_pin N z))
 
 unfoldable pub file_of : (ℕ → ℕ) → (ℕ → ℕ) → Netlist → List ℕ
-file_of inPad outPad N =
+file_of in_pad out_pad N =
     word N.inputs
-    ++ inputs_file inPad N.inputs
+    ++ inputs_file in_pad N.inputs
     ++ word N.cells
     ++ cells_file N N.cells
     ++ word N.outs
-    ++ outputs_file N outPad N.outs
+    ++ outputs_file N out_pad N.outs
 
 -- the file whose input k has pad k + 1, and whose output k has the pad that is the number of inputs + 1 + k
 abbrev pub padded_file : Netlist → List ℕ

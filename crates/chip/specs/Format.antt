@@ -54,9 +54,9 @@ pin_count_at file kind before at = do
 
 -- the net that a pin names: 6 if it is not below the number of nets, I+C
 unfoldable pub net_at : List ℕ → ℕ → ℕ → Got ℕ
-net_at file netCount at = do
+net_at file net_count at = do
   net ← word_at file at
-  _ ← check (ltb net netCount) 6 at
+  _ ← check (ltb net net_count) 6 at
   got net
 
 -- The sections: so many entries are left, from a place on; the last arguments grow with each entry.
@@ -70,10 +70,10 @@ inputs file (suc n) at pads = do
 
 -- the pins of a cell: a net each
 unfoldable pub pins : List ℕ → ℕ → ℕ → ℕ → List ℕ → Got (List ℕ)
-pins file netCount zero at nets = got nets
-pins file netCount (suc m) at nets = do
-  net ← net_at file netCount at
-  pins file netCount m (at + 2) (nets ++ net ∷ [])
+pins file net_count zero at nets = got nets
+pins file net_count (suc m) at nets = do
+  net ← net_at file net_count at
+  pins file net_count m (at + 2) (nets ++ net ∷ [])
 
 -- what the cells read so far give: the place after them, the kind and the pin count of each, and the net of each pin
 pub record Cells : Type 0 where
@@ -84,17 +84,17 @@ pub record Cells : Type 0 where
 
 -- one cell: kind, pin count, pins
 unfoldable pub cell : List ℕ → ℕ → Cells → Got Cells
-cell file netCount c = do
+cell file net_count c = do
   kind ← kind_at file c.at
   m ← pin_count_at file kind (length c.nets) (c.at + 1)
-  nets ← pins file netCount m (c.at + 2) c.nets
+  nets ← pins file net_count m (c.at + 2) c.nets
   got (record { at = c.at + 2 + 2 * m; kinds = c.kinds ++ kind ∷ []; counts = c.counts ++ m ∷ []; nets = nets })
 
 unfoldable pub cells : List ℕ → ℕ → ℕ → Cells → Got Cells
-cells file netCount zero c = got c
-cells file netCount (suc n) c = do
-  d ← cell file netCount c
-  cells file netCount n d
+cells file net_count zero c = got c
+cells file net_count (suc n) c = do
+  d ← cell file net_count c
+  cells file net_count n d
 
 -- what the outputs read so far give, after the inputs' pads and the cells' pins: the pads, and the net of each pin
 pub record Outputs : Type 0 where
@@ -103,11 +103,11 @@ pub record Outputs : Type 0 where
 
 -- the outputs: a pad and a net each
 unfoldable pub outputs : List ℕ → ℕ → ℕ → ℕ → List ℕ → List ℕ → Got Outputs
-outputs file netCount zero at pads nets = got (record { pads = pads; nets = nets })
-outputs file netCount (suc n) at pads nets = do
+outputs file net_count zero at pads nets = got (record { pads = pads; nets = nets })
+outputs file net_count (suc n) at pads nets = do
   pad ← pad_at file pads at
-  net ← net_at file netCount (at + 1)
-  outputs file netCount n (at + 3) (pads ++ pad ∷ []) (nets ++ net ∷ [])
+  net ← net_at file net_count (at + 1)
+  outputs file net_count n (at + 3) (pads ++ pad ∷ []) (nets ++ net ∷ [])
 
 -- The whole file: the numbers of inputs and outputs, the pads of the inputs and then of the outputs, the kind and the
 -- pin count of each cell, and the net of each pin, the cells' pins first and then one for each output.

@@ -15,7 +15,7 @@ use Rattle.chip.specs.Pads.{source, pad_buffer, into_pad, branch_of}
 use Rattle.chip.specs.Class.{blocks, tally}
 use Rattle.chip.specs.Transformed.{transformed}
 use Rattle.chip.specs.Inner.Direct.{direct, at_pins}
-use Rattle.chip.specs.Faults.{Lines, Run, Shown, good as goodLines, sees, stuck, transformed_lines}
+use Rattle.chip.specs.Faults.{Lines, Run, Shown, good as good_lines, sees, stuck, transformed_lines}
 use Rattle.chip.specs.Search.{width, pattern, Tried}
 use Rattle.chip.specs.declared.Site.TheVariants.{Net, Pin}
 use Rattle.chip.specs.declared.Fault.{Fault}
@@ -80,8 +80,8 @@ module _ (N : Netlist) (low : ℕ → ℕ) (rel : ℕ → ℕ → Bool) (z : ℕ
   module _ (f : Lines) (m : ℕ) where
     -- slots that obey all rules hold what the good circuit shows
     good_sees : (v : ℕ → Bool) → Start (width (blocks N low) rel z) m v → Rules N firsts cone z N.cells (λ p. v (get_or good p 0)) v → (r : ℕ → ℕ → Bool)
-        → Run (direct N (blocks N low)) goodLines (λ _. pattern rel z m) r → sees (direct N (blocks N low)) goodLines r 0 (out_pin N z) ≡ v (get_or good (out_pin N z) 0)
-    good_sees v A R = lane_sees N low rel z firsts order cone good Q m v A goodLines (λ n b. refl) (λ j c np e. R.cell j c (λ q. omega arith) e)
+        → Run (direct N (blocks N low)) good_lines (λ _. pattern rel z m) r → sees (direct N (blocks N low)) good_lines r 0 (out_pin N z) ≡ v (get_or good (out_pin N z) 0)
+    good_sees v A R = lane_sees N low rel z firsts order cone good Q m v A good_lines (λ n b. refl) (λ j c np e. R.cell j c (λ q. omega arith) e)
 
     -- slots that obey all rules, with what the fault does at the pins, hold what the faulty circuit shows
     faulty_sees : (v : ℕ → Bool) → Start (width (blocks N low) rel z) m v
@@ -90,12 +90,12 @@ module _ (N : Netlist) (low : ℕ → ℕ) (rel : ℕ → ℕ → Bool) (z : ℕ
         → sees (direct N (blocks N low)) (at_pins N f) r 0 (out_pin N z) ≡ (at_pins N f).pin (out_pin N z) (v (get_or good (out_pin N z) 0))
     faulty_sees v A R = lane_sees N low rel z firsts order cone good Q m v A (at_pins N f) (λ n b. refl) R
 
-    tried : (a b : Bool) → ((r : ℕ → ℕ → Bool) → Run (direct N (blocks N low)) goodLines (λ _. pattern rel z m) r → sees (direct N (blocks N low)) goodLines r 0 (out_pin N z) ≡ a)
+    tried : (a b : Bool) → ((r : ℕ → ℕ → Bool) → Run (direct N (blocks N low)) good_lines (λ _. pattern rel z m) r → sees (direct N (blocks N low)) good_lines r 0 (out_pin N z) ≡ a)
         → ((r : ℕ → ℕ → Bool) → Run (direct N (blocks N low)) (at_pins N f) (λ _. pattern rel z m) r → sees (direct N (blocks N low)) (at_pins N f) r 0 (out_pin N z) ≡ b)
         → Tried N (blocks N low) f rel z m ↔ (a ≢ b)
     tried a b g h = (
       (λ t e.
-          let (v, x, _) = has_run (direct N (blocks N low)) goodLines (λ _. pattern rel z m) (λ _. false) S K in
+          let (v, x, _) = has_run (direct N (blocks N low)) good_lines (λ _. pattern rel z m) (λ _. false) S K in
           let (v', x', _) = has_run (direct N (blocks N low)) (at_pins N f) (λ _. pattern rel z m) (λ _. false) S K in
           only.0 t v v' x x' (g v x ∙ e ∙ sym (h v' x'))),
       λ d. only.1 (λ v v' x x' e. d (sym (g v x) ∙ e ∙ h v' x')),
@@ -113,7 +113,7 @@ module _ (N : Netlist) (low : ℕ → ℕ) (rel : ℕ → ℕ → Bool) (z : ℕ
         only : Shown (transformed N (blocks N low)) (transformed_lines N (blocks N low) f) (λ _. pattern rel z m) z 0 ↔ Shown (direct N (blocks N low)) (at_pins N f) (λ _. pattern rel z m) z 0
         only = pins_iff N sound ranks (blocks N low) C f (pattern rel z m) z Q.output
 
-    tried_xor : (a b : Bool) → ((r : ℕ → ℕ → Bool) → Run (direct N (blocks N low)) goodLines (λ _. pattern rel z m) r → sees (direct N (blocks N low)) goodLines r 0 (out_pin N z) ≡ a)
+    tried_xor : (a b : Bool) → ((r : ℕ → ℕ → Bool) → Run (direct N (blocks N low)) good_lines (λ _. pattern rel z m) r → sees (direct N (blocks N low)) good_lines r 0 (out_pin N z) ≡ a)
         → ((r : ℕ → ℕ → Bool) → Run (direct N (blocks N low)) (at_pins N f) (λ _. pattern rel z m) r → sees (direct N (blocks N low)) (at_pins N f) r 0 (out_pin N z) ≡ b)
         → Tried N (blocks N low) f rel z m ↔ (xor a b ≡ true)
     tried_xor a b g h = let (x, y) = tried a b g h in let (p, q) = xor_differ a b in ((λ t. p (x t)), λ t. y (q t))

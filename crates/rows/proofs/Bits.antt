@@ -12,9 +12,9 @@ use Rattle.chip.specs.Search.{digit}
 use Rattle.chip.proofs.Bools.{both_true, or_yes}
 use Rattle.words.proofs.Bits.{digit_and, digit_or, digit_zero, digit_shift}
 
-and-true : (a b : Bool) → a ≡ true → b ≡ true → (a && b) ≡ true
-and-true true b p q = q
-and-true false b p q = absurd (false≢true p)
+and_true : (a b : Bool) → a ≡ true → b ≡ true → (a && b) ≡ true
+and_true true b p q = q
+and_true false b p q = absurd (false≢true p)
 
 or_first : (a b : Bool) → a ≡ true → (a || b) ≡ true
 or_first true b e = refl
@@ -29,7 +29,7 @@ pub split : (x y z : ℕ) → digit z (bit_and x y) ≡ true → (digit z x ≡ 
 split x y z e = both_true (digit z x) (digit z y) (sym (digit_and x y z) ∙ e)
 
 pub meet : (x y z : ℕ) → digit z x ≡ true → digit z y ≡ true → digit z (bit_and x y) ≡ true
-meet x y z a b = digit_and x y z ∙ and-true (digit z x) (digit z y) a b
+meet x y z a b = digit_and x y z ∙ and_true (digit z x) (digit z y) a b
 
 -- a bit that one of two words has
 pub bit_l : (x y z : ℕ) → digit z x ≡ true → digit z (bit_or x y) ≡ true

@@ -11,9 +11,9 @@ use Rattle.writing.proofs.Lengths.{length_listed, listed_at}
 use Rattle.writing.proofs.RoundTrip.{parsed_of}
 
 -- what is read from a file that was written is like what it was written from
-pub parsed_alike : (inPad outPad : ℕ → ℕ) (N : Netlist) → Same (chip_of (parsed_of inPad outPad N)) N
+pub parsed_alike : (in_pad out_pad : ℕ → ℕ) (N : Netlist) → Same (chip_of (parsed_of in_pad out_pad N)) N
 unfolding chip_of parsed_of
-parsed_alike inPad outPad N =
+parsed_alike in_pad out_pad N =
     record {
       inputs = refl;
       cells = length_listed N.kind N.cells;
@@ -54,13 +54,13 @@ module _ (M N : Netlist) (A : Same M N) where
       let up : first_pin N (suc j) ≤ first_pin N N.cells = sum_up N.pins (suc j) N.cells h in
       rw (cells_same j (omega arith), A.kind j (omega arith), A.pins j (omega arith), first_alike j (omega arith), pins_same (first_pin N j) (N.pins j) (omega arith))
 
-  outputs_same : (outPad : ℕ → ℕ) (z : ℕ) → z ≤ N.outs → outputs_file M outPad z ≡ outputs_file N outPad z
-  outputs_same outPad zero h = refl
-  outputs_same outPad (suc z) h = rw (outputs_same outPad z (omega arith), out_alike z, A.net (out_pin N z) (omega arith))
+  outputs_same : (out_pad : ℕ → ℕ) (z : ℕ) → z ≤ N.outs → outputs_file M out_pad z ≡ outputs_file N out_pad z
+  outputs_same out_pad zero h = refl
+  outputs_same out_pad (suc z) h = rw (outputs_same out_pad z (omega arith), out_alike z, A.net (out_pin N z) (omega arith))
 
-  pub file_same : (inPad outPad : ℕ → ℕ) → file_of inPad outPad M ≡ file_of inPad outPad N
+  pub file_same : (in_pad out_pad : ℕ → ℕ) → file_of in_pad out_pad M ≡ file_of in_pad out_pad N
   unfolding file_of
-  file_same inPad outPad =
+  file_same in_pad out_pad =
       let c : cells_file M M.cells ≡ cells_file N N.cells = cells_same M.cells (omega (arith, A.cells)) ∙ ap (cells_file N) A.cells in
-      let o : outputs_file M outPad M.outs ≡ outputs_file N outPad N.outs = outputs_same outPad M.outs (omega (arith, A.outs)) ∙ ap (outputs_file N outPad) A.outs in
+      let o : outputs_file M out_pad M.outs ≡ outputs_file N out_pad N.outs = outputs_same out_pad M.outs (omega (arith, A.outs)) ∙ ap (outputs_file N out_pad) A.outs in
       rw (c, o, A.inputs, A.cells, A.outs)

@@ -55,10 +55,10 @@ pub record Evened (N : Netlist) (labels : List ℕ) (d : ℕ) (seen : List ℕ) 
   pub seen_all : SeenMasks N labels (suc d) seen
 
 -- the class is 1 if a block is uneven, else 2 if an input is, else 3; an input number at least that of the inputs stands for none
-pub record Classified (inputs by-block by-input k : ℕ) : Type 0 where
-  pub one : by-block < inputs → k ≡ 1
-  pub two : inputs ≤ by-block → by-input < inputs → k ≡ 2
-  pub three : inputs ≤ by-block → inputs ≤ by-input → k ≡ 3
+pub record Classified (inputs by_block by_input k : ℕ) : Type 0 where
+  pub one : by_block < inputs → k ≡ 1
+  pub two : inputs ≤ by_block → by_input < inputs → k ≡ 2
+  pub three : inputs ≤ by_block → inputs ≤ by_input → k ≡ 3
 
 -- a chip that is prepared: its tables, its depth, class and number of blocks, and where the class is 1 the place of refusal 11
 pub record Shaped (N : Netlist) (firsts order branches block reached : List ℕ) (s : Shape) : Type 0 where
