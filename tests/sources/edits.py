@@ -1,5 +1,6 @@
-"""The must-fail edits. A file has one edit, or several of different functions, each behind a line `## NAME: what it shows`.
-An edit changes functions, or puts versions of a function before it, each with a name of its own; one of a definition changes none."""
+"""The must-fail edits. A file has one edit, or is `together.edit` with several of different functions, each behind a line
+`## NAME: what it shows`. An edit changes functions, or puts versions of a function before it, each with a name of its own; one of a
+definition changes none. What stands together stands in files of its own too, since `rt` tells the first refusal of a file only."""
 
 import re
 from dataclasses import dataclass
@@ -19,15 +20,33 @@ class Edit:
     changes: tuple  # the old texts, each with the new one
 
 
+CHANGE = re.compile(r"^old: (.*)\nnew: ?(.*)$", re.M)
+
+
+def paths_of(crate):
+    """The files of edits of a crate."""
+    return sorted((tree.CRATES / crate / "must-fail").glob("*.edit"))
+
+
+def together_of(crate):
+    """The file in which a crate's edits stand together, if they do."""
+    return [path for path in paths_of(crate) if path.stem == "together"]
+
+
+def changes_apart(crate):
+    """The changes of the files beside the one in which a crate's edits stand together."""
+    return sorted(change for path in paths_of(crate) if path.stem != "together" for change in CHANGE.findall(path.read_text()))
+
+
 def edits_of(crate):
-    """The edits of a crate, file by file."""
-    for path in sorted((tree.CRATES / crate / "must-fail").glob("*.edit")):
+    """The edits of a crate, file by file; those that stand together are read there."""
+    for path in together_of(crate) or paths_of(crate):
         text = path.read_text()
         parts = PART.split(text)[1:]
         if not parts:
             parts = [path.stem, text.splitlines()[0].removeprefix("# ") if text.startswith("# ") else "", text]
         for name, says, body in zip(parts[::3], parts[1::3], parts[2::3]):
-            changes = tuple(re.findall(r"^old: (.*)\nnew: ?(.*)$", body, re.M))
+            changes = tuple(CHANGE.findall(body))
             yield Edit(crate, path.stem, name, says, changes)
 
 
