@@ -12,9 +12,7 @@ use Rattle.chip.specs.Clocks.{pattern_of}
 use Rattle.chip.specs.Refusals.{Step, refuses, goes_on, At, prepared, Clocks, When18, When19, Short, leaving}
 use Rattle.chip.specs.Replies.{PlaySet, SetsPlay, SetOn, PatternRead, ReadsPattern, ReadOn}
 use Rattle.chip.specs.declared.Setting.{Setting}
-use Rattle.chip.specs.declared.Setting.TheVariants as Setting
 use Rattle.chip.specs.declared.ReadBack.{ReadBack}
-use Rattle.chip.specs.declared.ReadBack.TheVariants as ReadBack
 use Rattle.plays.proofs.Bytes.{not_above, one_count}
 use Rattle.replies.proofs.Opening.{not_uneven}
 use Rattle.opening.specs.Open.{netlist_of, IsOpen}

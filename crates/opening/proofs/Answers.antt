@@ -8,7 +8,7 @@ use Rattle.chip.specs.Inner.Limits.{InLimits}
 use Rattle.chip.specs.Inner.Tables.{sized}
 use Rattle.chip.specs.Got.{refused, got}
 use Rattle.chip.specs.Format.{read_of, chip_of}
-use Rattle.chip.specs.Class.{LoopFree, Prepared, blocks}
+use Rattle.chip.specs.Class.{LoopFree, Prepared}
 use Rattle.chip.specs.Refusals.{refuses, goes_on, When9, When10, Opens, unread, read, prepared}
 use Rattle.chip.specs.Replies.{ClassOn}
 use Rattle.chip.specs.declared.Classed.TheVariants.{Class}

@@ -1,5 +1,4 @@
 -- A file that is refused is answered with its refusal, and one that opens with what the call on the open chip answers.
-use borrow.Author.Rules.{rules}
 use Rattle.chip.specs.Refusals.{unopened, opened}
 use Rattle.opening.proofs.Answers.{is_refused, is_open}
 use Rattle.clocks.proofs.read_back.Goals as goal

@@ -1,10 +1,9 @@
 -- Each test that refuses is the one that the reply asks for at its place, and behind all of them the pattern is read from the window of the play that ends with the clock.
 use Prim.Native.Nat.{suc, ◌*◌, ◌-◌, ◌≤◌, ◌<◌}
-use mathlib.Core.Logic.{inl, inr, ⊎_elim}
+use mathlib.Core.Logic.{inl, inr}
 use native.Mathlib.Omega.{arith}
 use native.Mathlib.Nat.{mul-le-mul_right}
-use borrow.Author.Rules.{rules}
-use borrow.Author.Tests.{leb-true, leb-false}
+use borrow.Author.Tests.{leb-false}
 use lib.ListN.{length}
 use Rattle.plays.proofs.Parts.{clock_up}
 use Rattle.clocks.proofs.Answers.{read_13, read_11, read_14, read_18, read_19, read_15, read_done}

@@ -3,7 +3,6 @@ use Prim.Native.Nat.{◌+◌, ◌≤◌}
 use native.Mathlib.Nat.{mul-le-mul}
 use native.Mathlib.Omega.{arith}
 use native.Mathlib.Numerals.{add-one}
-use borrow.Author.Rules.{rules}
 use Rattle.clocks.proofs.Answers.{set_13, set_11, set_14, set_18, set_15, set_done}
 use Rattle.clocks.proofs.set_on.Goals as goal
 

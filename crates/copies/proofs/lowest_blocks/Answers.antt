@@ -1,16 +1,12 @@
 -- After x inputs each of them has its lowest block, and the number after its last block is the lowest of the next input.
-use Prim.Native.Nat.{ℕ, ◌-◌, ◌≤◌, ◌<◌}
+use Prim.Native.Nat.{◌≤◌, ◌<◌}
 use mathlib.Core.Path.{◌≡◌, refl, sym, ◌∙◌}
 use native.Mathlib.Omega.{arith}
-use borrow.Author.Rules.{rules}
 use lib.ListN.{length, length-set}
-use Rattle.chip.specs.Netlist.{Netlist, all_pins}
-use Rattle.chip.specs.Class.{Lowest}
-use Rattle.chip.specs.Inner.Tables.{BranchTable}
+use Rattle.chip.specs.Netlist.{all_pins}
 use Rattle.chip.proofs.Blocks.{counted}
 use Rattle.chip.specs.Pads.{branch_of}
-use Rattle.blocks.specs.Labels.{BlockTable}
-use Rattle.copies.proofs.Firsts.{Firsts, firsts_start, firsts_more, first_small, next_is}
+use Rattle.copies.proofs.Firsts.{firsts_start, firsts_more, first_small, next_is}
 use Rattle.copies.proofs.lowest_blocks.Goals as goal
 use Rattle.copies.proofs.lowest_blocks.Goals.{In-loop-x, Start}
 

@@ -1,15 +1,11 @@
-use Prim.Native.Nat.{ℕ, ◌-◌, ◌≤◌, ◌<◌}
-use mathlib.Core.Path.{◌≡◌, refl, sym, ◌∙◌}
-use native.Mathlib.Omega.{arith}
-use borrow.Author.Rules.{rules}
-use lib.ListN.{length, length-set}
+use Prim.Native.Nat.{ℕ, ◌-◌, ◌≤◌}
+use mathlib.Core.Path.{◌≡◌}
+use lib.ListN.{length}
 use Rattle.chip.specs.Netlist.{Netlist, all_pins}
 use Rattle.chip.specs.Class.{Lowest}
 use Rattle.chip.specs.Inner.Tables.{BranchTable}
-use Rattle.chip.proofs.Blocks.{counted}
-use Rattle.chip.specs.Pads.{branch_of}
 use Rattle.blocks.specs.Labels.{BlockTable}
-use Rattle.copies.proofs.Firsts.{Firsts, firsts_start, firsts_more, first_small, next_is}
+use Rattle.copies.proofs.Firsts.{Firsts}
 use Rattle.copies.proofs.lowest_blocks.Given as goal
 
 abbrev pub invariant-loop-x : goal.invariant-loop-x

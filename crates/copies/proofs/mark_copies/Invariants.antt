@@ -1,14 +1,11 @@
-use Prim.Native.Nat.{ℕ, ◌-◌, ◌≤◌, ◌<◌}
+use Prim.Native.Nat.{ℕ, ◌-◌, ◌≤◌}
 use mathlib.Core.Path.{◌≡◌}
 use mathlib.Core.List.{List}
-use native.Mathlib.Omega.{arith}
-use borrow.Author.Rules.{rules}
 use lib.ListN.{length}
 use Rattle.chip.specs.Class.{blocks}
 use Rattle.chip.specs.Inner.Tables.{tabled}
 use Rattle.blocks.specs.Labels.{BlockTable}
 use Rattle.copies.specs.Inner.Marks.{Ways, FlatMarks, FirstBlocks}
-use Rattle.copies.proofs.Marks.{flat_start}
 use Rattle.copies.proofs.mark_copies.Given as goal
 
 abbrev pub invariant-loop-p : goal.invariant-loop-p

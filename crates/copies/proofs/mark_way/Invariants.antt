@@ -1,14 +1,10 @@
-use Prim.Native.Nat.{ℕ, ◌+◌, ◌-◌, ◌≤◌, ◌<◌}
-use mathlib.Core.Path.{◌≡◌, refl, ap, ◌∙◌}
+use Prim.Native.Nat.{ℕ, ◌-◌, ◌≤◌}
+use mathlib.Core.Path.{◌≡◌}
 use mathlib.Core.List.{List}
-use native.Mathlib.Omega.{arith}
-use borrow.Author.Rules.{rules}
-use lib.ListN.{length, get_or, length-set}
-use Rattle.chip.specs.Netlist.{Netlist, first_pin}
-use Rattle.chip.specs.Inner.Tables.{tabled, FirstPins}
-use Rattle.chip.proofs.Basics.{pin_in, first_pin_lem}
+use lib.ListN.{length}
+use Rattle.chip.specs.Inner.Tables.{tabled}
 use Rattle.copies.specs.Inner.Marks.{Way}
-use Rattle.copies.proofs.Marks.{Walked, walk_start, walk_on, walk_end, walk_done, way_named}
+use Rattle.copies.proofs.Marks.{Walked}
 use Rattle.copies.proofs.mark_way.Given as goal
 
 abbrev pub invariant-loop-k : goal.invariant-loop-k

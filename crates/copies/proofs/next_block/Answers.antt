@@ -1,9 +1,6 @@
 -- r stands behind block `at` and behind the blocks of the branches of x among the first p pins, as each step keeps it.
-use Prim.Native.Nat.{◌-◌, ◌≤◌}
 use mathlib.Core.Path.{◌≡◌}
 use native.Mathlib.Omega.{arith}
-use borrow.Author.Rules.{rules}
-use Rattle.copies.specs.Inner.Marks.{NextBlock}
 use Rattle.copies.proofs.Firsts.{next_start}
 use Rattle.copies.proofs.next_block.Goals as goal
 

@@ -1,9 +1,5 @@
 use Prim.Native.Nat.{◌-◌, ◌≤◌}
-use mathlib.Core.Path.{◌≡◌}
-use native.Mathlib.Omega.{arith}
-use borrow.Author.Rules.{rules}
 use Rattle.copies.specs.Inner.Marks.{NextBlock}
-use Rattle.copies.proofs.Firsts.{next_start}
 use Rattle.copies.proofs.next_block.Given as goal
 
 abbrev pub invariant-loop-p : goal.invariant-loop-p

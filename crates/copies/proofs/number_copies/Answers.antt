@@ -1,10 +1,8 @@
 -- The count is the sum of the marks passed, so it is the number that the next place gets.
-use Prim.Native.Nat.{ℕ, ◌-◌, ◌≤◌, ◌<◌}
 use mathlib.Core.Path.{◌≡◌, refl, ap, ◌∙◌}
 use native.Mathlib.Numerals.{add-one}
 use native.Mathlib.Omega.{arith}
-use borrow.Author.Rules.{rules}
-use lib.ListN.{length, get_or, length-set}
+use lib.ListN.{get_or, length-set}
 use Rattle.chip.specs.Netlist.{sum_below}
 use Rattle.chip.proofs.Entries.{entry_more}
 use Rattle.copies.proofs.number_copies.Goals as goal

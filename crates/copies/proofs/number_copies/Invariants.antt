@@ -1,11 +1,7 @@
 use Prim.Native.Nat.{ℕ, ◌-◌, ◌≤◌, ◌<◌}
-use mathlib.Core.Path.{◌≡◌, refl, ap, ◌∙◌}
-use native.Mathlib.Numerals.{add-one}
-use native.Mathlib.Omega.{arith}
-use borrow.Author.Rules.{rules}
-use lib.ListN.{length, get_or, length-set}
+use mathlib.Core.Path.{◌≡◌}
+use lib.ListN.{length, get_or}
 use Rattle.chip.specs.Netlist.{sum_below}
-use Rattle.chip.proofs.Entries.{entry_more}
 use Rattle.copies.proofs.number_copies.Given as goal
 
 abbrev pub invariant-loop-l : goal.invariant-loop-l

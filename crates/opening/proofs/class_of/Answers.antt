@@ -1,5 +1,4 @@
 -- A file that is refused passes its refusal on, and one that opens has the reply of the call on the open chip.
-use borrow.Author.Rules.{rules}
 use Rattle.chip.specs.Refusals.{unopened, opened}
 use Rattle.opening.proofs.Answers.{is_refused, is_open}
 use Rattle.opening.proofs.class_of.Goals as goal

@@ -1,5 +1,4 @@
 -- Each return is one way that a file opens: not read, looped, too deep, or prepared with all of its tables.
-use borrow.Author.Rules.{rules}
 use lib.ListN.{get_or-replicate}
 use Rattle.netlist.proofs.Use.{holds}
 use Rattle.opening.proofs.Answers.{found_looped, found_deep, found_chip, opens_unread, tables_limits, tables_pins, opens_looped, opens_deep, opens_chip, refused_is}

@@ -1,11 +1,8 @@
 -- Pin by pin, the marked pins below p have their bytes at their places, and a place that two pins share gets one byte from both; in the end p is n.
-use Prim.Native.Nat.{◌-◌, ◌≤◌}
-use mathlib.Core.Logic.{⊎_elim}
 use mathlib.Core.Bool.{true}
 use mathlib.Core.Path.{◌≡◌, sym, ◌∙◌}
 use native.Mathlib.Omega.{arith}
-use borrow.Author.Rules.{rules}
-use Rattle.sweeps.specs.Copied.{marked, Copied}
+use Rattle.sweeps.specs.Copied.{marked}
 use Rattle.sweeps.proofs.Copying.{copied_start, copied_skip, copied_more}
 use Rattle.sweeps.proofs.copy_marked.Goals as goal
 use Rattle.sweeps.proofs.copy_marked.Goals.{Then-is_marked, else-is_marked, then-is_marked}

@@ -1,11 +1,5 @@
 use Prim.Native.Nat.{◌-◌, ◌≤◌}
-use mathlib.Core.Logic.{⊎_elim}
-use mathlib.Core.Bool.{true}
-use mathlib.Core.Path.{◌≡◌, sym, ◌∙◌}
-use native.Mathlib.Omega.{arith}
-use borrow.Author.Rules.{rules}
 use Rattle.sweeps.specs.Copied.{marked, Copied}
-use Rattle.sweeps.proofs.Copying.{copied_start, copied_skip, copied_more}
 use Rattle.sweeps.proofs.copy_marked.Given as goal
 
 abbrev pub invariant-loop-p : goal.invariant-loop-p

@@ -1,10 +1,6 @@
 -- Byte by byte, what was idle below k is 0 and every other byte is that of the entry; in the end k is n.
-use Prim.Native.Nat.{◌-◌, ◌≤◌}
-use mathlib.Core.Logic.{⊎_elim}
 use mathlib.Core.Path.{◌≡◌}
 use native.Mathlib.Omega.{arith}
-use borrow.Author.Rules.{rules}
-use Rattle.sweeps.specs.Copied.{IdleFilled}
 use Rattle.sweeps.proofs.Copying.{filled_start, filled_skip, filled_more}
 use Rattle.sweeps.proofs.fill_idle.Goals as goal
 use Rattle.sweeps.proofs.fill_idle.Goals.{else-bytes-k-eq-IDLE, then-bytes-k-eq-IDLE}

@@ -1,10 +1,5 @@
 use Prim.Native.Nat.{◌-◌, ◌≤◌}
-use mathlib.Core.Logic.{⊎_elim}
-use mathlib.Core.Path.{◌≡◌}
-use native.Mathlib.Omega.{arith}
-use borrow.Author.Rules.{rules}
 use Rattle.sweeps.specs.Copied.{IdleFilled}
-use Rattle.sweeps.proofs.Copying.{filled_start, filled_skip, filled_more}
 use Rattle.sweeps.proofs.fill_idle.Given as goal
 
 abbrev pub invariant-loop-k : goal.invariant-loop-k

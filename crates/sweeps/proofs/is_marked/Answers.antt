@@ -1,7 +1,6 @@
 -- The two tests are those that the definition joins: the pin names an input, and its word has the bit.
 use mathlib.Core.Path.{refl}
 use native.Mathlib.Omega.{arith}
-use borrow.Author.Rules.{rules}
 use borrow.Author.Tests.{lt-ltb, le-ltb}
 use lib.ListN.{get_or}
 use Rattle.sweeps.specs.Copied.{marked}

@@ -1,16 +1,13 @@
 -- Depth by depth, the blocks that reach the output at a depth below e have their values at their places, and every other byte is as it was when all places were idle; behind the last depth that is the pattern laid.
-use Prim.Native.Nat.{ℕ, suc, ◌+◌, ◌*◌, ◌-◌, ◌≤◌}
+use Prim.Native.Nat.{suc, ◌+◌, ◌*◌, ◌-◌, ◌≤◌}
 use mathlib.Core.Path.{◌≡◌, ◌∙◌}
 use native.Mathlib.Nat.{mul-le-mul}
 use native.Mathlib.Numerals.{add-one}
 use native.Mathlib.Omega.{arith}
-use borrow.Author.Rules.{rules}
 use lib.ListN.{length, replicate, get_or-replicate}
 use Rattle.chip.specs.Inner.Tables.{sized}
-use Rattle.chip.specs.Class.{Lowest, blocks}
-use Rattle.levels.specs.Levels.{MasksBefore}
 use Rattle.levels.proofs.Masks.{first_before}
-use Rattle.sweeps.proofs.Sweeping.{SetTo, copied_none, clock_in, part_long}
+use Rattle.sweeps.proofs.Sweeping.{copied_none, clock_in, part_long}
 use Rattle.sweeps.proofs.Tables.{set_places, set_step, laid_all}
 use Rattle.sweeps.proofs.lay_play.Goals as goal
 use Rattle.sweeps.proofs.lay_play.Goals.{At-loop-e}

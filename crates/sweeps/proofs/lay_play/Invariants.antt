@@ -1,16 +1,8 @@
-use Prim.Native.Nat.{ℕ, suc, ◌+◌, ◌*◌, ◌-◌, ◌≤◌}
-use mathlib.Core.Path.{◌≡◌, ◌∙◌}
-use native.Mathlib.Nat.{mul-le-mul}
-use native.Mathlib.Numerals.{add-one}
-use native.Mathlib.Omega.{arith}
-use borrow.Author.Rules.{rules}
-use lib.ListN.{length, replicate, get_or-replicate}
+use Prim.Native.Nat.{ℕ, suc, ◌-◌, ◌≤◌}
 use Rattle.chip.specs.Inner.Tables.{sized}
 use Rattle.chip.specs.Class.{Lowest, blocks}
 use Rattle.levels.specs.Levels.{MasksBefore}
-use Rattle.levels.proofs.Masks.{first_before}
-use Rattle.sweeps.proofs.Sweeping.{SetTo, copied_none, clock_in, part_long}
-use Rattle.sweeps.proofs.Tables.{set_places, set_step, laid_all}
+use Rattle.sweeps.proofs.Sweeping.{SetTo}
 use Rattle.sweeps.proofs.lay_play.Given as goal
 
 abbrev pub invariant-loop-e : goal.invariant-loop-e

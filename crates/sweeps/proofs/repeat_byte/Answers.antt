@@ -1,9 +1,6 @@
 -- Byte by byte, the bytes below k are the one given and the others are those of the entry; in the end k is n.
-use Prim.Native.Nat.{◌-◌, ◌≤◌}
 use mathlib.Core.Path.{◌≡◌}
 use native.Mathlib.Omega.{arith}
-use borrow.Author.Rules.{rules}
-use Rattle.sweeps.specs.Copied.{Repeated}
 use Rattle.sweeps.proofs.Copying.{repeated_start, repeated_more}
 use Rattle.sweeps.proofs.repeat_byte.Goals as goal
 

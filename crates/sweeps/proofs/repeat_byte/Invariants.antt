@@ -1,9 +1,5 @@
 use Prim.Native.Nat.{◌-◌, ◌≤◌}
-use mathlib.Core.Path.{◌≡◌}
-use native.Mathlib.Omega.{arith}
-use borrow.Author.Rules.{rules}
 use Rattle.sweeps.specs.Copied.{Repeated}
-use Rattle.sweeps.proofs.Copying.{repeated_start, repeated_more}
 use Rattle.sweeps.proofs.repeat_byte.Given as goal
 
 abbrev pub invariant-loop-k : goal.invariant-loop-k
