@@ -10,7 +10,7 @@ use Rattle.chip.specs.Got.{got}
 use Rattle.chip.specs.Class.{Blocks}
 use Rattle.chip.specs.Transformed.{copies}
 use Rattle.chip.specs.File.{transformed_file}
-use Rattle.chip.specs.Refusals.{Step, refuses, goes_on, Opens, unopened, opened, Short, Wrote, leaving}
+use Rattle.chip.specs.Refusals.{Step, goes_on, Opens, unopened, opened, Short, Wrote, leaving}
 use Rattle.chip.specs.Replies.{Writes, CircuitOn, TransformOn, TransformReply}
 use Rattle.chip.specs.declared.Transformed.{Transformed}
 use Rattle.chip.specs.declared.Transformed.TheVariants.{Written, Refused}

@@ -1,7 +1,6 @@
 -- Each test that is passed rules out one refusal in the order of the reply, and what the clocks show is then the answer.
 use mathlib.Core.Path.{refl, sym}
 use native.Mathlib.Omega.{arith}
-use borrow.Author.Rules.{rules}
 use Rattle.chip.specs.Faults.{FaultIn, AllBits}
 use Rattle.chip.specs.Refusals.{refuses, goes_on, prepared, Clocks}
 use Rattle.chip.specs.Replies.{shows, shows_not}

@@ -1,5 +1,4 @@
 -- A file that is refused has that reply, and one that is open the reply of its chip.
-use borrow.Author.Rules.{rules}
 use Rattle.chip.specs.Refusals.{unopened, opened}
 use Rattle.opening.proofs.Answers.{is_refused, is_open}
 use Rattle.checking.proofs.check_play.Goals as goal

@@ -1,18 +1,17 @@
 -- After l marks the copies passed have their nets, each at its own number, and no pin of an old cell or output is written.
-use Prim.Native.Nat.{ℕ, ◌+◌, ◌*◌, ◌-◌, ◌/◌, ◌%◌, ◌≤◌, ◌<◌}
+use Prim.Native.Nat.{ℕ, ◌+◌, ◌*◌, ◌/◌, ◌%◌, ◌≤◌, ◌<◌}
 use mathlib.Core.Path.{◌≡◌, refl, ap, ◌∙◌}
-use mathlib.Core.Logic.{◌⊎◌, inl, inr, ⊎_elim, ◌≢◌}
+use mathlib.Core.Logic.{◌⊎◌, inl, inr, ◌≢◌}
 use mathlib.Core.List.{List}
 use native.Mathlib.Omega.{arith}
-use borrow.Author.Rules.{rules}
-use lib.ListN.{length, get_or, length-set}
+use lib.ListN.{get_or, length-set}
 use lib.Seq.{get_or-set_other}
 use Rattle.chip.specs.Netlist.{Netlist, first_pin, out_pin, all_pins}
 use Rattle.chip.specs.Class.{blocks}
 use Rattle.chip.specs.Transformed.{net_for}
 use Rattle.chip.specs.Inner.Tables.{FirstPins}
 use Rattle.chip.proofs.Basics.{pin_in, first_pin_lem}
-use Rattle.transform.specs.Inner.New.{net_of, Totalled, CopyNets}
+use Rattle.transform.specs.Inner.New.{net_of}
 use Rattle.transform.proofs.New.{room_of, cell_marked, number_low, copy_more, copy_skip}
 use Rattle.transform.proofs.copy_nets.Goals as goal
 use Rattle.transform.proofs.copy_nets.Goals.{In-loop-l, Start, else-marks-l-eq1, then-marks-l-eq1}

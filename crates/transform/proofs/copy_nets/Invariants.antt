@@ -1,18 +1,11 @@
-use Prim.Native.Nat.{ℕ, ◌+◌, ◌*◌, ◌-◌, ◌/◌, ◌%◌, ◌≤◌, ◌<◌}
-use mathlib.Core.Path.{◌≡◌, refl, ap, ◌∙◌}
-use mathlib.Core.Logic.{◌⊎◌, inl, inr, ⊎_elim, ◌≢◌}
+use Prim.Native.Nat.{ℕ, ◌+◌, ◌*◌, ◌-◌, ◌≤◌, ◌<◌}
+use mathlib.Core.Path.{◌≡◌}
+use mathlib.Core.Logic.{◌⊎◌}
 use mathlib.Core.List.{List}
-use native.Mathlib.Omega.{arith}
-use borrow.Author.Rules.{rules}
-use lib.ListN.{length, get_or, length-set}
-use lib.Seq.{get_or-set_other}
-use Rattle.chip.specs.Netlist.{Netlist, first_pin, out_pin, all_pins}
+use lib.ListN.{length, get_or}
 use Rattle.chip.specs.Class.{blocks}
-use Rattle.chip.specs.Transformed.{net_for}
 use Rattle.chip.specs.Inner.Tables.{FirstPins}
-use Rattle.chip.proofs.Basics.{pin_in, first_pin_lem}
 use Rattle.transform.specs.Inner.New.{net_of, Totalled, CopyNets}
-use Rattle.transform.proofs.New.{room_of, cell_marked, number_low, copy_more, copy_skip}
 use Rattle.transform.proofs.copy_nets.Given as goal
 
 abbrev pub invariant-loop-l : goal.invariant-loop-l

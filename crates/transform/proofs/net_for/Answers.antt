@@ -1,7 +1,6 @@
 -- An input stands as the block, a marked cell as the copy with its number, an unmarked one as itself, by the marks and numbers.
 use Prim.Native.Nat.{◌<◌, ◌+◌, ◌-◌}
 use native.Mathlib.Omega.{arith}
-use borrow.Author.Rules.{rules}
 use Rattle.transform.proofs.New.{for_pad, for_marked, for_unmarked}
 use Rattle.transform.proofs.net_for.Goals as goal
 use Rattle.transform.proofs.net_for.Goals.{After-wide}

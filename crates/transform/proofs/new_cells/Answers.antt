@@ -1,11 +1,9 @@
 -- After j cells both tables have the kinds and pin counts of those, and a step writes entry j of each and no other.
-use Prim.Native.Nat.{ℕ, ◌-◌, ◌≤◌, ◌<◌}
 use mathlib.Core.Path.{◌≡◌}
 use mathlib.Core.Bool.{cond}
 use native.Mathlib.Omega.{arith}
-use borrow.Author.Rules.{rules}
 use lib.Dec.{ltb}
-use lib.ListN.{length, get_or, length-set}
+use lib.ListN.{get_or, length-set}
 use Rattle.chip.specs.Transformed.{flat}
 use Rattle.chip.proofs.Entries.{entry_more}
 use Rattle.transform.proofs.new_cells.Goals as goal

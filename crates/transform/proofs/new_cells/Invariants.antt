@@ -1,12 +1,9 @@
 use Prim.Native.Nat.{ℕ, ◌-◌, ◌≤◌, ◌<◌}
 use mathlib.Core.Path.{◌≡◌}
 use mathlib.Core.Bool.{cond}
-use native.Mathlib.Omega.{arith}
-use borrow.Author.Rules.{rules}
 use lib.Dec.{ltb}
-use lib.ListN.{length, get_or, length-set}
+use lib.ListN.{length, get_or}
 use Rattle.chip.specs.Transformed.{flat}
-use Rattle.chip.proofs.Entries.{entry_more}
 use Rattle.transform.proofs.new_cells.Given as goal
 
 abbrev pub invariant-loop-j : goal.invariant-loop-j

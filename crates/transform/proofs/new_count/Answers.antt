@@ -1,6 +1,5 @@
 -- An old cell keeps its pin count, and every cell from c on is a copy, a BUF with one pin.
 use mathlib.Core.Path.{refl}
-use borrow.Author.Rules.{rules}
 use borrow.Author.Tests.{lt-ltb, le-ltb}
 use native.Mathlib.Omega.{arith}
 use Rattle.transform.proofs.new_count.Goals as goal

@@ -1,6 +1,5 @@
 -- Below c the kind is an old cell's without its flip-flop, and from c on each cell is a copy, so a BUF.
 use mathlib.Core.Path.{refl}
-use borrow.Author.Rules.{rules}
 use borrow.Author.Tests.{lt-ltb, le-ltb}
 use native.Mathlib.Omega.{arith}
 use Rattle.transform.proofs.new_kind.Goals as goal

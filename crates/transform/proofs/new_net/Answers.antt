@@ -2,7 +2,6 @@
 use Prim.Native.Nat.{◌<◌, ◌-◌}
 use mathlib.Core.Path.{refl, ap, ◌∙◌}
 use native.Mathlib.Omega.{arith}
-use borrow.Author.Rules.{rules}
 use lib.ListN.{get_or}
 use Rattle.chip.specs.Class.{blocks}
 use Rattle.chip.specs.Transformed.{net_for}

@@ -1,7 +1,6 @@
 -- Pins of cells come before the output pins and stay, and those of outputs move up by the m pins of the copies.
 use mathlib.Core.Path.{refl}
 use native.Mathlib.Omega.{arith}
-use borrow.Author.Rules.{rules}
 use borrow.Author.Tests.{lt-ltb, le-ltb}
 use Rattle.transform.proofs.new_pin.Goals as goal
 

@@ -1,13 +1,11 @@
 -- After p pins each of them has its new net at its moved place, and no two pins move to one place.
-use Prim.Native.Nat.{ℕ, ◌-◌, ◌≤◌, ◌<◌}
+use Prim.Native.Nat.{◌<◌}
 use mathlib.Core.Path.{◌≡◌, ap, ◌∙◌}
-use mathlib.Core.List.{List}
 use native.Mathlib.Omega.{arith}
-use borrow.Author.Rules.{rules}
-use lib.ListN.{length, length-set}
+use lib.ListN.{length-set}
 use Rattle.chip.specs.Netlist.{Netlist, out_pin, all_pins}
 use Rattle.chip.specs.Class.{blocks}
-use Rattle.transform.specs.Inner.New.{moved, net_of, Totalled, OldNets}
+use Rattle.transform.specs.Inner.New.{moved, net_of}
 use Rattle.transform.proofs.New.{room_of, branch_block, moved_low, old_more}
 use Rattle.transform.proofs.old_nets.Goals as goal
 use Rattle.transform.proofs.old_nets.Goals.{After-new_net}

@@ -1,13 +1,9 @@
-use Prim.Native.Nat.{ℕ, ◌-◌, ◌≤◌, ◌<◌}
-use mathlib.Core.Path.{◌≡◌, ap, ◌∙◌}
+use Prim.Native.Nat.{ℕ, ◌-◌, ◌≤◌}
+use mathlib.Core.Path.{◌≡◌}
 use mathlib.Core.List.{List}
-use native.Mathlib.Omega.{arith}
-use borrow.Author.Rules.{rules}
-use lib.ListN.{length, length-set}
-use Rattle.chip.specs.Netlist.{Netlist, out_pin, all_pins}
+use lib.ListN.{length}
 use Rattle.chip.specs.Class.{blocks}
-use Rattle.transform.specs.Inner.New.{moved, net_of, Totalled, OldNets}
-use Rattle.transform.proofs.New.{room_of, branch_block, moved_low, old_more}
+use Rattle.transform.specs.Inner.New.{net_of, Totalled, OldNets}
 use Rattle.transform.proofs.old_nets.Given as goal
 
 abbrev pub invariant-loop-p : goal.invariant-loop-p

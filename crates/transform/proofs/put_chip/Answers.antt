@@ -14,7 +14,6 @@ use Rattle.transform.specs.Inner.New.{Totalled}
 use Rattle.transform.specs.declared.Totals.{Totals}
 use Rattle.transform.proofs.Answers.{writable_on, writes_on}
 use Rattle.transform.proofs.Filled.{all_zero, fits, circuit_long}
-use borrow.Author.Rules.{rules}
 use Rattle.transform.proofs.put_chip.Goals as goal
 use Rattle.transform.proofs.put_chip.Goals.{Else-n-m-gt4096, Start}
 

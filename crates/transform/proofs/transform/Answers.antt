@@ -1,5 +1,4 @@
 -- A file that does not open keeps the buffer and passes its refusal on, and on an open chip the reply is that of transform_on.
-use borrow.Author.Rules.{rules}
 use Rattle.chip.specs.Refusals.{unopened, opened}
 use Rattle.opening.proofs.Answers.{is_refused, is_open}
 use Rattle.transform.proofs.transform.Goals as goal

@@ -1,5 +1,4 @@
 -- An open chip has its limits, first pins, branches and numbered blocks, which is all that put_chip asks.
-use borrow.Author.Rules.{rules}
 use Rattle.chip.specs.Refusals.{prepared}
 use Rattle.transform.proofs.transform_on.Goals as goal
 

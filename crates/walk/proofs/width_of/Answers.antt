@@ -1,10 +1,6 @@
 -- After k blocks w counts those among them whose bit z is set, and the next block adds one or none.
-use Prim.Native.Nat.{◌-◌, ◌≤◌}
 use mathlib.Core.Path.{◌≡◌, refl, sym, ◌∙◌}
-use mathlib.Core.Logic.{⊎_elim}
 use native.Mathlib.Omega.{arith}
-use borrow.Author.Rules.{rules}
-use Rattle.walk.specs.Walk.{width_of}
 use Rattle.walk.proofs.Widths.{tally_yes, tally_no}
 use Rattle.walk.proofs.width_of.Goals as goal
 use Rattle.walk.proofs.width_of.Goals.{else-has_bit, then-has_bit}

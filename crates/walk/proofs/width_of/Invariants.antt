@@ -1,10 +1,6 @@
 use Prim.Native.Nat.{◌-◌, ◌≤◌}
-use mathlib.Core.Path.{◌≡◌, refl, sym, ◌∙◌}
-use mathlib.Core.Logic.{⊎_elim}
-use native.Mathlib.Omega.{arith}
-use borrow.Author.Rules.{rules}
+use mathlib.Core.Path.{◌≡◌}
 use Rattle.walk.specs.Walk.{width_of}
-use Rattle.walk.proofs.Widths.{tally_yes, tally_no}
 use Rattle.walk.proofs.width_of.Given as goal
 
 abbrev pub invariant-loop-k : goal.invariant-loop-k
