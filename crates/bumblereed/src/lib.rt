@@ -1,3 +1,4 @@
+#![tactic(auto)]
 // The calls of Bumblereed, each with its contract. Any bytes get a reply: no call on a file has a precondition.
 // A refusal has a number and a place, as 01 lists them, and writes nothing; the first refusal in the order below is given.
 // A call on a file first refuses what cannot be read (1 to 8), then a loop (9), then a depth over 255 (10). Who makes many calls on one
