@@ -7,7 +7,7 @@ use chip::{Fault, Site};
 
 // A call: its code, 7 where it cannot be read, the lengths of its file, of its pattern or play and of its buffer, and its
 // output, fault and clock. At the end of the input there is none.
-#[derive(Drop)]
+#[derive(Clone, Copy)]
 pub struct Call {
     pub there: bool,
     pub code: u8,

@@ -1,3 +1,4 @@
+#![tactic(auto)]
 // Answers the calls that stand on standard input, with a line for each on standard output.
 use asked::Call;
 use lines::Buffer;

@@ -1,3 +1,4 @@
+#![tactic(auto)]
 // Lists a netlist from standard input: a line of sizes and a line for each fault, or the one line of its refusal.
 ghost use Rattle.std.specs.Prelude.{◌≤◌, ◌≢◌, length};
 ghost use Rattle.opening.specs.Open.{IsOpen};
