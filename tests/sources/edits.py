@@ -82,6 +82,30 @@ def is_refused(said):
     return re.match(r"refused, as it must be(?:: |$)", said) is not None
 
 
+def apart(crate):
+    """The edits that stand in a file of their own."""
+    for path in paths_of(crate):
+        changes = tuple(CHANGE.findall(path.read_text()))
+        if path.stem != "together":
+            yield Edit(crate, path.stem, path.stem, "", changes)
+
+
+def refused_in(edit, said):
+    """The function whose proof the prover refused first: by the folder of the proof, or by the line of the source."""
+    found = re.search(r"(?:\./)?proofs/(?:\w+/)*(\w+)/(?:Answers|Invariants)\.antt:", said)
+    if found:
+        return found.group(1)
+    found = re.search(r"src/(\w+\.rt):(\d+):\d+:", said)
+    if not found:
+        return None
+    lines = (tree.CRATES / edit.crate / "src" / found.group(1)).read_text().splitlines()
+    line = int(found.group(2))
+    if any(old in lines[line - 1] and new.startswith("pub fn ") for old, new in edit.changes):  # a version put before a call
+        return next(iter(functions_edited(edit)))
+    above = [start.group(2) for start in map(START.match, lines[:line]) if start]
+    return above[-1] if above else None
+
+
 def number_refused(log):
     """How many files of edits `rt ci` counts as refused, now or by an earlier run; nothing if it passed not all, or some are bad."""
     found = re.search(r"^rt: ok; .*; must-fail edits: (\d+) refused; ", log, re.M)
