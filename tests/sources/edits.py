@@ -6,7 +6,7 @@ import re
 from dataclasses import dataclass
 
 from sources import tree
-from sources.functions import START, without_comments
+from sources.functions import START, name_of, without_comments
 
 PART = re.compile(r"^## (\w+): (.+)$", re.M)
 
@@ -55,7 +55,7 @@ def functions_edited(edit):
     found = set()
     for path in tree.files(edit.crate, "src", "rt"):
         text = without_comments(path.read_text())
-        starts = [(start.start(), start.group(2)) for start in START.finditer(text)]
+        starts = [(start.start(), name_of(text, start)) for start in START.finditer(text)]
         for old, new in edit.changes:
             added = set(re.findall(r"\bfn (\w+)\(", new)) - {name for _, name in starts}
             before = [name for start, name in starts if start < text.find(old)]
@@ -91,18 +91,21 @@ def apart(crate):
 
 
 def refused_in(edit, said):
-    """The function whose proof the prover refused first: by the folder of the proof, or by the line of the source."""
-    found = re.search(r"(?:\./)?proofs/(?:\w+/)*(\w+)/(?:Answers|Invariants)\.antt:", said)
+    """The function whose proof the prover refused first: by the folder of the proof, a method's in its type's, or by the line of the source."""
+    found = re.search(r"(?:\./)?proofs/(?:[a-z]\w*/)*((?:[A-Z]\w*/)?\w+)/(?:Answers|Invariants)\.antt:", said)
     if found:
-        return found.group(1)
+        return found.group(1).replace("/", "::")
     found = re.search(r"src/(\w+\.rt):(\d+):\d+:", said)
     if not found:
         return None
-    lines = (tree.CRATES / edit.crate / "src" / found.group(1)).read_text().splitlines()
+    text = (tree.CRATES / edit.crate / "src" / found.group(1)).read_text()
+    lines = text.splitlines()
     line = int(found.group(2))
+    while lines[line - 1].lstrip().startswith("#["):  # a function begins with its attributes
+        line += 1
     if any(old in lines[line - 1] and new.startswith("pub fn ") for old, new in edit.changes):  # a version put before a call
         return next(iter(functions_edited(edit)))
-    above = [start.group(2) for start in map(START.match, lines[:line]) if start]
+    above = [name_of(text, start) for start in START.finditer(text) if text.count("\n", 0, start.start()) < line]
     return above[-1] if above else None
 
 

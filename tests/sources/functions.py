@@ -7,9 +7,10 @@ from pathlib import Path
 
 from sources import tree
 
-START = re.compile(r"^(pub )?fn (\w+)(?:<'\w+(?:, '\w+)*>)?\(", re.M)
+START = re.compile(r"^( *)(pub )?fn (\w+)(?:<[^(]*>)?\(", re.M)
+IMPL = re.compile(r"^(?:impl|(?:pub )?trait)(?:<[^{]*?>)? (?:[\w:]+(?:<[^{]*?>)? for )?(\w+)", re.M)
 OPEN = re.compile(r"^// Open: (.+?): (.+)\.$")
-CLAUSE = re.compile(r"^    (requires|ensures) (?:\w+ )?\{ (.*?) \}$", re.M | re.S)
+CLAUSE = re.compile(r"^    (requires|ensures) (?:\w+ )?\{ (.*?) \};?$", re.M | re.S)
 
 
 @dataclass(frozen=True)
@@ -43,17 +44,34 @@ def arguments_of(signature):
     return number + bool(text.strip())
 
 
-def head_of(text):
-    """A function up to its body."""
+def head_of(text, indent):
+    """A function up to its body, or to the semicolon of a trait's function, moved to the left edge."""
     lines = []
     for line in text.splitlines():
+        line = line.removeprefix(indent)
         if line == "{":
             break
         if line.endswith(" {") and not line.startswith(("    requires", "    ensures")):
             lines.append(line[:-2])
             break
-        lines.append(line)
+        lines.append(line.removesuffix(";"))
+        if line.endswith(";"):
+            break
     return "\n".join(lines)
+
+
+def name_of(text, start):
+    """A function's name; that of a method stands behind its type's."""
+    if not start.group(1):
+        return start.group(3)
+    return f"{[found.group(1) for found in IMPL.finditer(text, 0, start.start())][-1]}::{start.group(3)}"
+
+
+def is_offered(text, start):
+    """Whether a function is public, or a public trait's."""
+    if start.group(2) or not start.group(1):
+        return bool(start.group(2))
+    return [found.group(0) for found in IMPL.finditer(text, 0, start.start())][-1].startswith("pub trait")
 
 
 def without_comments(text):
@@ -69,9 +87,11 @@ def clauses_of(head, where):
 
 
 def opens_of(text, start):
-    """What the comment line `// Open: WHAT: WHY.` before a function says."""
-    before = text[:start].splitlines()[-1:]
-    found = OPEN.match(before[0]) if before else None
+    """What the comment line `// Open: WHAT: WHY.` before a function, and before its attributes, says."""
+    before = [line.strip() for line in text[:start.start()].splitlines()]
+    while before and before[-1].startswith("#["):
+        before.pop()
+    found = OPEN.match(before[-1]) if before else None
     return found.groups() if found else ()
 
 
@@ -81,18 +101,19 @@ def functions_of(crate):
     found = []
     for path in tree.files(crate, "src", "rt"):
         whole = path.read_text()
-        opens = {start.group(2): opens_of(whole, start.start()) for start in START.finditer(whole) if start.group(1)}
-        if len(re.findall(r"^// Open\b", whole, re.M)) != sum(map(bool, opens.values())):
+        opens = {name_of(whole, start): opens_of(whole, start) for start in START.finditer(whole) if start.group(2)}
+        if len(re.findall(r"^ *// Open\b", whole, re.M)) != sum(map(bool, opens.values())):
             raise ValueError(f"{tree.shown(path)}: a line `// Open:` that is not read, or is not a public function's")
         text = without_comments(whole)
         if len(START.findall(text)) != len(re.findall(r"\bfn \w", text)):
             raise ValueError(f"{tree.shown(path)}: a function that is not read")
         for start in START.finditer(text):
-            head = head_of(text[start.start():])
-            clauses = clauses_of(head, f"{tree.shown(path)}: {start.group(2)}")
+            name = name_of(text, start)
+            head = head_of(text[start.start():], start.group(1))
+            clauses = clauses_of(head, f"{tree.shown(path)}: {name}")
             signature = re.split(r"^    (?:requires|ensures) ", head, maxsplit=1, flags=re.M)[0]
-            found.append(Function(crate, start.group(2), path, bool(start.group(1)), one_line(signature),
+            found.append(Function(crate, name, path, is_offered(text, start), one_line(signature),
                                   tuple(one_line(text) for word, text in clauses if word == "requires"),
                                   tuple(one_line(text) for word, text in clauses if word == "ensures"),
-                                  opens.get(start.group(2), ())))
+                                  opens.get(name, ())))
     return found

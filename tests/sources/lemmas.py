@@ -8,6 +8,9 @@ from sources.definitions import WORD
 
 SIGNATURE = re.compile(r"^( *)(?:abbrev |unfoldable )?(pub )?(?:(?:abbrev|unfoldable|record|data) )?([^\s:(){}]+)(?: [({].*[)}])? :( |$)")
 
+# What `#[tactic(auto, using(crate::proofs::M::lemma), unfolding(..))]` names.
+ATTRIBUTE = re.compile(r"((?:crate|\w+)::(?:proofs|specs)(?:::\w+)*)::(\w+)")
+
 
 @cache
 def body(path):
@@ -21,7 +24,8 @@ def body(path):
 
 @cache
 def words(path):
-    return frozenset(word for line in body(path) for word in WORD.findall(line))
+    named = (name for line in body(path) if line.lstrip().startswith("#[tactic(") for _, name in ATTRIBUTE.findall(line))
+    return frozenset([*named, *(word for line in body(path) for word in WORD.findall(line))])
 
 
 @cache
@@ -33,7 +37,13 @@ def imports(path):
         if match:
             names = {name.strip() for name in match.group(2).split(",")} if match.group(2) else {"*"}
             found.setdefault(match.group(1), set()).update(names)
+        for module, name in ATTRIBUTE.findall(line) if line.lstrip().startswith("#[tactic(") else []:
+            found.setdefault("Rattle." + re.sub(r"^crate\b", crate_of(path), module).replace("::", "."), set()).add(name)
     return found
+
+
+def crate_of(path):
+    return path.relative_to(tree.CRATES).parts[0]
 
 
 def indent(line):

@@ -6,6 +6,7 @@ answer behind the last.
 
 import re
 from dataclasses import dataclass
+from functools import cache
 
 from sources import tree
 
@@ -27,6 +28,13 @@ class Theorem:
     statement: str
 
 
+@cache
+def numbers():
+    """The number of each reason, by the definition of 01's numbers."""
+    text = (tree.CRATES / "chip" / "specs" / "Got.antt").read_text()
+    return {reason: int(number) for reason, number in re.findall(r"^number_of Reason\.(\w+) = (\d+)$", text, re.M)}
+
+
 def closing(text, at):
     """The index of the bracket that closes the one at an index."""
     depth = 0
@@ -44,7 +52,7 @@ def body(definition):
 
 def start(definition):
     """The refusal of a reply on a file, and the name of the reply on a netlist that it starts; nothing if it is no `Start`."""
-    found = re.match(r"Start \(?((?:leaving entry )?)(\w+)\.Refused\)? \(?(?:λ N\. )?(\w+)", body(definition))
+    found = re.match(r"Start \(?((?:leaving entry )?)(\w*refused)\)? \(?(?:λ N\. )?(\w+)", body(definition))
     return found and (found.group(1).strip(), found.group(2), found.group(3))
 
 
@@ -62,8 +70,8 @@ def guards(text):
         condition = text[at + 1:end - 1]
         at = text.index("(", end)
         end = closing(text, at) + 1
-        refusal = re.fullmatch(r"((?:leaving entry )?)\w+\.Refused (\d+)", text[at + 1:end - 1])
-        found.append(Refusal(condition, int(refusal.group(2)), refusal.group(1).strip()))
+        refusal = re.fullmatch(r"((?:leaving entry )?)\w*refused Reason\.(\w+)", text[at + 1:end - 1])
+        found.append(Refusal(condition, numbers()[refusal.group(2)], refusal.group(1).strip()))
         text = text[end:]
 
 

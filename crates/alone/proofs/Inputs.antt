@@ -1,14 +1,14 @@
 -- A stuck input.
-use Prim.Native.Nat.{ℕ, ◌+◌, ◌*◌, ◌/◌, ◌%◌, ◌≤◌, ◌<◌}
+use Prim.Native.Nat.{ℕ, ◌+◌, ◌*◌, ◌/◌, ◌%◌, ◌<◌}
 use mathlib.Core.Path.{◌≡◌, refl, sym, ap, ◌∙◌, subst}
-use mathlib.Core.Logic.{◌↔◌, ◌≢◌, inl, inr, ⊎_elim}
+use mathlib.Core.Logic.{◌↔◌, ◌≢◌, ⊎_elim}
 use mathlib.Core.Bool.{Bool, true, false, cond, xor, false≢true}
 use mathlib.Core.List.{List}
 use native.Mathlib.Omega.{arith}
-use native.Mathlib.Decide.{dec_lt, ℕ_discrete}
+use native.Mathlib.Decide.{ℕ_discrete}
 use native.Mathlib.Nat.{add-zero}
 use borrow.Author.Tests.{lt-ltb, eq-eqb, ne_eqb}
-use lib.ListN.{length, get_or}
+use lib.ListN.{get_or}
 use lib.Dec.{eqb}
 use lib.Bits.{bit_and}
 use Rattle.chip.specs.Netlist.{Netlist, PinOf, first_pin, out_pin, all_pins}
@@ -27,9 +27,8 @@ use Rattle.chip.proofs.Basics.{some_pin}
 use Rattle.rows.specs.Rows.{Filled, on_row}
 use Rattle.rows.proofs.Fill.{row_at}
 use Rattle.rows.proofs.Bits.{meet}
-use Rattle.events.specs.Events.{marked, Live, Marks, Chip, Agree, Marked, Ran, Good}
+use Rattle.events.specs.Events.{marked, Live, Chip, Marked, Ran, Good}
 use Rattle.words.proofs.Lanes.{gate_same}
-use Rattle.events.proofs.Running.{outside}
 use Rattle.flip.specs.Bed.{Bed, Start, Rules}
 use Rattle.flip.proofs.Flips.{no_out, Stuck, input_lane}
 use Rattle.faults.specs.Numbers.{fault_number}
@@ -38,66 +37,11 @@ use Rattle.cells.specs.Cells.{Clear}
 use Rattle.known.specs.Setting.{Shows, Setting, Long, lane_of_run, Went}
 use Rattle.known.proofs.Advance.{advance_none}
 use Rattle.stages.specs.Stage.{VariableReaders, Variables}
-use Rattle.alone.specs.Alone.{VarPut, VarsPut, VarMarked, VarsMarked, InputRan, InputTried, InputStep}
+use Rattle.alone.specs.Alone.{VarsPut, VarsMarked, InputRan, InputTried, InputStep}
 use Rattle.known.proofs.Steps.{looked_kept, looked_advance}
 use Rattle.known.proofs.Runs.{constant, start_of, rules_of}
 
 -- ---- the variables of an input
-
-module _ (x : ℕ) (list input : List ℕ) (word : ℕ → ℕ → ℕ) where
-  pub var_put : (k s : ℕ) (vals vals' : List ℕ) → s ≡ get_or list k 0 → get_or input s 0 ≡ x → Filled (16 * k) 16 (word k) vals vals' → VarPut k x list input word vals vals'
-  var_put k s vals vals' e m F =
-      record { long = F.long; here = λ _ j l. F.done j l; others = λ y g. outside k (word k) vals vals' F y (g (ap (λ s. get_or input s 0) (sym e) ∙ m)) }
-
-  pub var_same : (k s : ℕ) (vals : List ℕ) → s ≡ get_or list k 0 → get_or input s 0 ≢ x → VarPut k x list input word vals vals
-  var_same k s vals e m = record { long = refl; here = λ y. absurd (m (ap (λ s. get_or input s 0) e ∙ y)); others = λ y g. refl }
-
-  pub vars_none : (vals : List ℕ) → VarsPut 0 x list input word vals vals
-  vars_none vals = record { long = refl; here = λ k l. absurd (omega arith); others = λ y g. refl }
-
-  pub vars_more : (m : ℕ) (vals₀ vals vals' : List ℕ) → VarsPut m x list input word vals₀ vals → VarPut m x list input word vals vals' → VarsPut (m + 1) x list input word vals₀ vals'
-  vars_more m vals₀ vals vals' A B =
-      record {
-        long = B.long ∙ A.long;
-        here = λ k l e j h. elim (ℕ_discrete k m) [
-          | yes q ↦ ap (λ k. get_or vals' (16 * k + j) 0) q ∙ B.here (ap (λ k. get_or input (get_or list k 0) 0) (sym q) ∙ e) j h ∙ ap (λ k. word k j) (sym q)
-          | no g ↦ B.others (16 * k + j) (λ _ y. g (omega arith)) ∙ A.here k (omega arith) e j h
-        ];
-        others = λ y g. B.others y (λ e. g m (omega arith) e) ∙ A.others y (λ k l e. g k (omega arith) e);
-      }
-
-module _ (x u : ℕ) (list input heads readers reach : List ℕ) where
-  pub var_marked : (k s from to : ℕ) (marks marks' : List ℕ) → s ≡ get_or list k 0 → from ≡ get_or heads s 0 → to ≡ get_or heads (s + 1) 0 → get_or heads (get_or list k 0 + 1) 0 ≤ length readers
-      → Marks from to u readers reach marks marks' → VarMarked k x u list input heads readers reach marks marks'
-  var_marked k s from to marks marks' e f t h M =
-      let f' : from ≡ get_or heads (get_or list k 0) 0 = f ∙ ap (λ s. get_or heads s 0) e in
-      let t' : to ≡ get_or heads (get_or list k 0 + 1) 0 = t ∙ ap (λ s. get_or heads (s + 1) 0) e in
-      record {
-        long = M.long;
-        kept = M.kept;
-        put = λ _ r a b v. M.put r (omega arith) (omega arith) v;
-        only = λ y m. ⊎_elim (λ b. inl b) (λ b. let (r, lo, hi, q) = b in inr (r, omega arith, q)) (M.only y m);
-      }
-
-  pub var_unmarked : (k s : ℕ) (marks : List ℕ) → s ≡ get_or list k 0 → get_or input s 0 ≢ x → length marks ≡ 16 → VarMarked k x u list input heads readers reach marks marks
-  var_unmarked k s marks e m l = record { long = l; kept = λ t b. b; put = λ y. absurd (m (ap (λ s. get_or input s 0) e ∙ y)); only = λ t b. inl b }
-
-  pub marks_none : (marks : List ℕ) → length marks ≡ 16 → VarsMarked 0 x u list input heads readers reach marks marks
-  marks_none marks l = record { long = l; put = λ k h. absurd (omega arith); only = λ t b. inl b }
-
-  pub marks_more : (m : ℕ) (marks₀ marks marks' : List ℕ) → VarsMarked m x u list input heads readers reach marks₀ marks → VarMarked m x u list input heads readers reach marks marks'
-      → VarsMarked (m + 1) x u list input heads readers reach marks₀ marks'
-  marks_more m marks₀ marks marks' A B =
-      record {
-        long = B.long;
-        put = λ k l e r a b v. elim (ℕ_discrete k m) [
-          | yes q ↦ B.put (ap (λ k. get_or input (get_or list k 0) 0) (sym q) ∙ e) r (omega (arith, ap (λ k. get_or heads (get_or list k 0) 0) q)) (omega (arith, ap (λ k. get_or heads (get_or list k 0 + 1) 0) q)) v
-          | no g ↦ B.kept (get_or readers r 0) (A.put k (omega arith) e r a b v)
-        ];
-        only = λ t b. ⊎_elim (λ y. A.only t y) (λ y. inr y) (B.only t b);
-      }
-
--- ---- the run
 
 module _ (c w f u : ℕ) (kinds counts firsts src order reach heads readers list input goods : List ℕ) (C : Chip c kinds counts firsts src order reach heads readers)
     (R : VariableReaders c w counts firsts src order heads readers list input) (G : Good c u kinds counts firsts src order reach goods) (blank acc vals₁ marks marks₁ : List ℕ)
@@ -139,20 +83,6 @@ module _ (c w f u : ℕ) (kinds counts firsts src order reach heads readers list
         free = λ k j l h e. X.others (16 * k + j) (λ t a b y. omega (arith, R.few)) ∙ other k j h (λ _. e);
         agree = λ y g v. X.agree vals₁ (λ x _. refl) y g ∙ P.others y v;
       }
-
--- the variables put back, only places that changed differ
-pub freed_agree : (c w f u : ℕ) (kinds counts firsts src order reach list input goods vals changed vals' : List ℕ) → InputRan c w f u kinds counts firsts src order reach list input goods vals changed
-    → VarsPut w (f / 2) list input (λ k j. get_or goods (16 * k + j) 0) vals vals' → Agree c order goods changed vals'
-freed_agree c w f u kinds counts firsts src order reach list input goods vals changed vals' R P x g = elim (dec_lt (x / 16) w) [
-  | yes l ↦ elim (ℕ_discrete (get_or input (get_or list (x / 16) 0) 0) (f / 2)) [
-    | yes e ↦ let q : 16 * (x / 16) + x % 16 ≡ x = omega arith in rw q at (P.here (x / 16) l e (x % 16) (omega arith))
-    | no d ↦ other (λ k h e y. d (ap (λ k. get_or input (get_or list k 0) 0) y ∙ e))
-  ]
-  | no h ↦ other (λ k l e y. h (omega arith))
-]
-  where
-    other : ((k : ℕ) → k < w → get_or input (get_or list k 0) 0 ≡ f / 2 → x / 16 ≢ k) → get_or vals' x 0 ≡ get_or goods x 0
-    other d = P.others x d ∙ R.agree x g d
 
 -- ---- what the run tells
 

@@ -5,10 +5,10 @@ use mathlib.Core.Logic.{◌↔◌, inl, inr, ⊎_elim}
 use mathlib.Core.Bool.{Bool, true, xor}
 use mathlib.Core.List.{List}
 use native.Mathlib.Omega.{arith}
-use native.Mathlib.Decide.{dec_lt, ℕ_discrete}
+use native.Mathlib.Decide.{dec_lt}
 use borrow.Author.Tests.{le-ltb}
 use lib.ListN.{length, get_or, set}
-use lib.Seq.{get_or-set_same, get_or-set_other}
+use lib.Seq.{get_or-set_same}
 use lib.Dec.{eqb}
 use lib.Bits.{bit_and}
 use Rattle.chip.specs.Netlist.{out_pin, all_pins}
@@ -18,8 +18,6 @@ use Rattle.chip.specs.Faults.{stuck}
 use Rattle.chip.specs.Search.{digit, width, Tried}
 use Rattle.chip.specs.declared.Site.TheVariants.{Pin}
 use Rattle.chip.specs.declared.Fault.{Fault}
-use Rattle.rows.specs.Rows.{Filled}
-use Rattle.rows.proofs.Fill.{row_at}
 use Rattle.rows.proofs.Bits.{meet}
 use Rattle.flip.proofs.Flips.{out_lane}
 use Rattle.faults.specs.Numbers.{fault_number}
@@ -33,20 +31,10 @@ use Rattle.known.proofs.Runs.{constant, start_of, rules_of}
 -- ---- the slots of the run
 
 -- the outputs' slots, but for that of output z
-pub ends_low : (z v : ℕ) (outs blank ends : List ℕ) → z < 64 → v < 2 → length blank ≡ 64 → ((y : ℕ) → y < 64 → 16 * get_or outs y 0 + 16 ≤ 16672) → Filled 0 64 (λ y. get_or outs (0 + y) 0) blank ends
-    → (y : ℕ) → y < 64 → 16 * get_or (set ends z (1040 + v)) y 0 + 16 ≤ 16672
-ends_low z v outs blank ends zl vl bl low F y yl = elim (ℕ_discrete y z) [
-  | yes e ↦ let q : get_or (set ends z (1040 + v)) y 0 ≡ 1040 + v = ap (λ x. get_or (set ends z (1040 + v)) x 0) e ∙ get_or-set_same ends z (1040 + v) 0 (omega (arith, F.long)) in omega arith
-  | no g ↦
-      let zy : 0 + y ≡ y = omega arith in
-      let q : get_or (set ends z (1040 + v)) y 0 ≡ get_or outs y 0 = get_or-set_other ends z y (1040 + v) 0 g ∙ row_at 64 _ blank ends F y yl ∙ ap (λ x. get_or outs x 0) zy in
-      omega (arith, low y yl)
-]
-
-pub out_looked : (f z v q g u : ℕ) (outs goods blank ends left best pat left' best' pat' : List ℕ) → z < 64 → length blank ≡ 64 → Filled 0 64 (λ y. get_or outs (0 + y) 0) blank ends → u ≡ bit_and (get_or left f 0) g
+pub out_looked : (f z v q g u : ℕ) (outs goods ends left best pat left' best' pat' : List ℕ) → z < length ends → u ≡ bit_and (get_or left f 0) g
     → Looked f q u (λ y. lane_of_run (get_or outs y 0) (get_or (set ends z (1040 + v)) y 0) goods goods) left best pat left' best' pat'
     → OutLooked f z v q g outs goods left best pat left' best' pat'
-out_looked f z v q g u outs goods blank ends left best pat left' best' pat' zl bl F e L = record { ends = set ends z (1040 + v); here = get_or-set_same ends z (1040 + v) 0 (omega (arith, F.long)); looked = rw e at L }
+out_looked f z v q g u outs goods ends left best pat left' best' pat' zl e L = record { ends = set ends z (1040 + v); here = get_or-set_same ends z (1040 + v) 0 zl; looked = rw e at L }
 
 pub out_idle : (f z v q g : ℕ) (outs goods left best pat : List ℕ) → z < 64 → length outs ≡ 64 → bit_and (get_or left f 0) g ≡ 0 → OutLooked f z v q g outs goods left best pat left best pat
 out_idle f z v q g outs goods left best pat zl ol e = record { ends = set outs z (1040 + v); here = get_or-set_same outs z (1040 + v) 0 (omega arith); looked = looked_idle f q (bit_and (get_or left f 0) g) _ left best pat e }

@@ -2,40 +2,43 @@
 // The faults that are runs of their own, or looked at without one.
 // Fault 2 * site + v: the nets of inputs and cells are the first sites, then come the pins, the last ones those of the outputs.
 ghost use Rattle.std.specs.Prelude.{◌≡◌, ℕ, ◌+◌, ◌-◌, ◌*◌, ◌≤◌, ◌<◌, length, get_or};
-ghost use Rattle.events.specs.Events.{Chip, Good};
-ghost use Rattle.events.specs.Lent.{kinds_of, counts_of, inputs_of, firsts_of, order_of, heads_of, readers_of, slots_of, outs_of, variables_of};
+ghost use Rattle.events.specs.Tables.{ChipOn, GoodOn};
 ghost use Rattle.cells.specs.Cells.{Clear};
 ghost use Rattle.known.specs.Setting.{GoodRun, Long, Went};
 ghost use Rattle.stages.specs.Stage.{VariableReaders};
 ghost use Rattle.alone.specs.Alone.{Between, OutLooked, OutStep, VarPut, VarsPut, VarMarked, VarsMarked, InputRan, InputTried, InputStep};
 
-use chip::{CELLS, FAULTS, OUTPUTS, wide, wide8};
-use events::{HEAD, INPUT, MARKS, ORDER, OUT, READER, SLOT, Trial, VARIABLE};
+use chip::{OUTPUTS, Sizes};
+use events::{ChipTables, GroupTables, MARKS, Trial};
+use homes::{Progress, Run};
 use rows::{ROW, WORDS};
 
-// Looks for fault f, the pin of output z stuck at v, at the outputs of g.
-fn try_out(
+// Looks for fault f, the pin of output z stuck at v.
+fn try_out<'a>(
     f: usize,
     z: usize,
     v: u16,
-    q: usize,
-    g: u64,
-    outs: &[u16],
+    trial: Trial,
+    group: GroupTables<'a>,
     goods: &[u64; WORDS],
-    left: &mut [u64; FAULTS],
-    best: &mut [u8; FAULTS],
-    pat: &mut [u32; FAULTS],
+    known: &mut Progress,
 )
-    requires q_bound { (q < 4096) × (f < 10368) × (z < 64) × (v < 2) × (length outs.now ≡ 64) × (length goods.now ≡ 16672) × ((y : ℕ) → y < 64 → 16 * get_or outs.now y 0 + 16 ≤ 16672) }
-    requires long { Long left.old best.old pat.old }
-    ensures { OutLooked f z v q g outs.now goods.now left.old best.old pat.old left.new best.new pat.new }
+    requires chunk_bound { (trial.chunk < 4096) × (f < 10368) × (z < 64) × (v < 2) × (length group.outs.now ≡ 64) × (length goods.now ≡ 16672) × ((y : ℕ) → y < 64 → 16 * get_or group.outs.now y 0 + 16 ≤ 16672) }
+    requires long { Long known.old.left known.old.best known.old.pat }
+    ensures { OutLooked f z v trial.chunk trial.at group.entry.outs.now goods.now known.old.left known.old.best known.old.pat known.new.left known.new.best known.new.pat }
 {
-    let u = left[f] & g;
+    let u = known.left[f] & trial.at;
     if u != 0 {
         let mut ends = [0u16; OUTPUTS];
-        homes::copy_pins(0, 64, outs, &mut ends);
+        ends.copy_from_slice(group.outs);
         ends[z] = 1040 + v;
-        known::look_all(f, q, u, outs, &ends, goods, goods, left, best, pat);
+        let run = Run {
+            outs: group.outs,
+            ends: &ends,
+            goods,
+            vals: goods,
+        };
+        known::look_all(f, trial.chunk, u, run, known);
     }
 }
 
@@ -43,93 +46,64 @@ fn try_out(
 // Open: what is known of these faults, but for how one chunk more takes it on: the tables need not be a chip's, and what was known before need not be right.
 pub fn try_outs<'a>(
     trial: Trial,
-    group: [&'a [u16]; 3],
+    sizes: Sizes,
+    group: GroupTables<'a>,
     goods: &[u64; WORDS],
-    left: &mut [u64; FAULTS],
-    best: &mut [u8; FAULTS],
-    pat: &mut [u32; FAULTS],
+    known: &mut Progress,
 )
-    requires inputs_bound { (trial.inputs ≤ 64) × (trial.cells ≤ 1024) × (trial.pins ≤ 4096) × (trial.outputs ≤ 64) × (trial.outputs ≤ trial.pins) }
-    requires chunk_bound { (trial.chunk < 4096) × (length (outs_of group) ≡ 64) × (length goods.now ≡ 16672) × ((y : ℕ) → y < 64 → 16 * get_or (outs_of group) y 0 + 16 ≤ 16672) }
-    requires long { Long left.old best.old pat.old }
-    ensures { Went (Between (2 * (trial.inputs + trial.cells + trial.pins - trial.outputs)) (2 * (trial.inputs + trial.cells + trial.pins))) (OutStep trial.inputs trial.cells trial.outputs trial.pins trial.chunk trial.at (outs_of group.entry) goods.now) left.old best.old pat.old left.new best.new pat.new }
+    requires inputs_bound { (sizes.inputs ≤ 64) × (sizes.cells ≤ 1024) × (sizes.pins ≤ 4096) × (sizes.outputs ≤ 64) × (sizes.outputs ≤ sizes.pins) }
+    requires chunk_bound { (trial.chunk < 4096) × (length group.outs.now ≡ 64) × (length goods.now ≡ 16672) × ((y : ℕ) → y < 64 → 16 * get_or group.outs.now y 0 + 16 ≤ 16672) }
+    requires long { Long known.old.left known.old.best known.old.pat }
+    ensures { Went (Between (2 * (sizes.inputs + sizes.cells + sizes.pins - sizes.outputs)) (2 * (sizes.inputs + sizes.cells + sizes.pins))) (OutStep sizes.inputs sizes.cells sizes.outputs sizes.pins trial.chunk trial.at group.entry.outs.now goods.now) known.old.left known.old.best known.old.pat known.new.left known.new.best known.new.pat }
 {
-    let i = trial.inputs;
-    let c = trial.cells;
-    let o = trial.outputs;
-    let n = trial.pins;
-    let outs = group[OUT];
-    let first = 2 * (i + c + n - o);
-    for e in 0..2 * o {
-        try_out(
-            first + e,
-            e / 2,
-            (e % 2) as u16,
-            trial.chunk,
-            trial.at,
-            outs,
-            goods,
-            left,
-            best,
-            pat,
-        );
+    let first = 2 * (sizes.inputs + sizes.cells + sizes.pins - sizes.outputs);
+    for e in 0..2 * sizes.outputs {
+        try_out(first + e, e / 2, (e % 2) as u16, trial, group, goods, known);
     }
 }
 
 // Puts words into variable k, if it is of input x, and marks its readers.
-fn set_one(
+fn set_one<'a, 'b>(
     k: usize,
     x: usize,
     u: u64,
+    chip: ChipTables<'a>,
+    group: GroupTables<'b>,
     acc: &[u64; ROW],
-    list: &[u16],
-    input: &[u8],
-    reach: &[u64; CELLS],
-    heads: &[u16],
-    readers: &[u16],
     vals: &mut [u64; WORDS],
     marks: &mut [u64; MARKS],
 )
     requires k_bound { (k < 16) × (length acc.now ≡ 16) × (length vals.old ≡ 16672) × (length marks.old ≡ 16) }
-    requires k_in_bounds { (k < length list.now) × (get_or list.now k 0 < length input.now) × (get_or list.now k 0 + 1 < length heads.now) × (get_or heads.now (get_or list.now k 0) 0 ≤ get_or heads.now (get_or list.now k 0 + 1) 0) × (get_or heads.now (get_or list.now k 0 + 1) 0 ≤ length readers.now) }
-    requires by_index { (r : ℕ) → r < length readers.now → (get_or readers.now r 0 < 1024) × (get_or readers.now r 0 < length reach.now) }
-    ensures var_put { VarPut k x list.now input.now (λ k j. get_or acc.now j 0) vals.old vals.new }
-    ensures var_marked { VarMarked k x u list.now input.now heads.now readers.now reach.now marks.old marks.new }
+    requires k_in_bounds { (k < length group.variables.now) × (get_or group.variables.now k 0 < length chip.inputs.now) × (get_or group.variables.now k 0 + 1 < length chip.heads.now) × (get_or chip.heads.now (get_or group.variables.now k 0) 0 ≤ get_or chip.heads.now (get_or group.variables.now k 0 + 1) 0) × (get_or chip.heads.now (get_or group.variables.now k 0 + 1) 0 ≤ length chip.readers.now) }
+    requires by_index { (r : ℕ) → r < length chip.readers.now → (get_or chip.readers.now r 0 < 1024) × (get_or chip.readers.now r 0 < length chip.reach.now) }
+    ensures var_put { VarPut k x group.entry.variables.now chip.entry.inputs.now (λ k j. get_or acc.now j 0) vals.old vals.new }
+    ensures var_marked { VarMarked k x u group.entry.variables.now chip.entry.inputs.now chip.entry.heads.now chip.entry.readers.now chip.entry.reach.now marks.old marks.new }
 {
-    let s = wide(list[k]);
-    if wide8(input[s]) == x {
+    let s = usize::from(group.variables[k]);
+    if usize::from(chip.inputs[s]) == x {
         rows::store(acc, k, vals);
-        events::mark(wide(heads[s]), wide(heads[s + 1]), u, readers, reach, marks);
+        events::mark_readers(s, u, chip, marks);
     }
 }
 
 // Puts words into the variables of input x, and marks their readers.
 fn set_input<'a, 'b>(
     x: usize,
-    trial: Trial,
-    bytes: [&'a [u8]; 3],
-    tables: [&'a [u16]; 5],
-    group: [&'b [u16]; 3],
-    reach: &[u64; CELLS],
+    u: u64,
+    chip: ChipTables<'a>,
+    group: GroupTables<'b>,
     acc: &[u64; ROW],
     vals: &mut [u64; WORDS],
     marks: &mut [u64; MARKS],
 )
-    requires chip { Chip trial.cells (kinds_of bytes) (counts_of bytes) (firsts_of tables) (slots_of group) (order_of tables) reach.now (heads_of tables) (readers_of tables) }
-    requires variable_readers { VariableReaders trial.cells trial.width (counts_of bytes) (firsts_of tables) (slots_of group) (order_of tables) (heads_of tables) (readers_of tables) (variables_of group) (inputs_of bytes) }
+    requires chip { ChipOn chip group.slots.now }
+    requires variable_readers { VariableReaders chip.sizes.cells group.width chip.counts.now chip.firsts.now group.slots.now chip.order.now chip.heads.now chip.readers.now group.variables.now chip.inputs.now }
     requires acc_len { (length acc.now ≡ 16) × (length vals.old ≡ 16672) × (length marks.old ≡ 16) }
-    ensures vars_put { VarsPut trial.width x (variables_of group.entry) (inputs_of bytes.entry) (λ k j. get_or acc.now j 0) vals.old vals.new }
-    ensures vars_marked { VarsMarked trial.width x trial.at (variables_of group.entry) (inputs_of bytes.entry) (heads_of tables.entry) (readers_of tables.entry) reach.now marks.old marks.new }
+    ensures vars_put { VarsPut group.entry.width x group.entry.variables.now chip.entry.inputs.now (λ k j. get_or acc.now j 0) vals.old vals.new }
+    ensures vars_marked { VarsMarked group.entry.width x u group.entry.variables.now chip.entry.inputs.now chip.entry.heads.now chip.entry.readers.now chip.entry.reach.now marks.old marks.new }
 {
-    let list = group[VARIABLE];
-    let input = bytes[INPUT];
-    let heads = tables[HEAD];
-    let readers = tables[READER];
-    let w = trial.width;
-    for k in 0..w {
-        set_one(
-            k, x, trial.at, acc, list, input, reach, heads, readers, vals, marks,
-        );
+    for k in 0..group.width {
+        set_one(k, x, u, chip, group, acc, vals, marks);
     }
 }
 
@@ -137,72 +111,58 @@ fn set_input<'a, 'b>(
 fn run_input<'a, 'b>(
     f: usize,
     trial: Trial,
-    bytes: [&'a [u8]; 3],
-    tables: [&'a [u16]; 5],
-    group: [&'b [u16]; 3],
-    reach: &[u64; CELLS],
+    chip: ChipTables<'a>,
+    group: GroupTables<'b>,
     goods: &[u64; WORDS],
     vals: &mut [u64; WORDS],
     marks: &mut [u64; MARKS],
     changed: &mut [u64; MARKS],
 )
-    requires chip { Chip trial.cells (kinds_of bytes) (counts_of bytes) (firsts_of tables) (slots_of group) (order_of tables) reach.now (heads_of tables) (readers_of tables) }
-    requires variable_readers { VariableReaders trial.cells trial.width (counts_of bytes) (firsts_of tables) (slots_of group) (order_of tables) (heads_of tables) (readers_of tables) (variables_of group) (inputs_of bytes) }
+    requires chip { ChipOn chip group.slots.now }
+    requires variable_readers { VariableReaders chip.sizes.cells group.width chip.counts.now chip.firsts.now group.slots.now chip.order.now chip.heads.now chip.readers.now group.variables.now chip.inputs.now }
     requires goods_len { (length goods.now ≡ 16672) × (vals.old ≡ goods.now) × Clear marks.old × Clear changed.old }
-    requires good { Good trial.cells trial.at (kinds_of bytes) (counts_of bytes) (firsts_of tables) (slots_of group) (order_of tables) reach.now goods.now }
-    ensures input_ran { InputRan trial.cells trial.width f trial.at (kinds_of bytes.entry) (counts_of bytes.entry) (firsts_of tables.entry) (slots_of group.entry) (order_of tables.entry) reach.now (variables_of group.entry) (inputs_of bytes.entry) goods.now vals.new changed.new }
+    requires good { GoodOn chip group.slots.now trial.at goods.now }
+    ensures input_ran { InputRan chip.entry.sizes.cells group.entry.width f trial.at chip.entry.kinds.now chip.entry.counts.now chip.entry.firsts.now group.entry.slots.now chip.entry.order.now chip.entry.reach.now group.entry.variables.now chip.entry.inputs.now goods.now vals.new changed.new }
     ensures marks_len { length marks.new ≡ 16 }
 {
     let mut acc = [0u64; ROW];
     rows::load(goods, 1040 + f % 2, &mut acc);
-    set_input(f / 2, trial, bytes, tables, group, reach, &acc, vals, marks);
-    events::run(
-        0,
-        trial.cells,
-        trial.at,
-        bytes,
-        tables,
-        group[SLOT],
-        reach,
-        vals,
-        marks,
-        changed,
-    );
+    set_input(f / 2, trial.at, chip, group, &acc, vals, marks);
+    events::run(0, trial.at, chip, group.slots, vals, marks, changed);
 }
 
 // Puts the good words back into variable k, if it is of input x.
-fn free_one(
+fn free_one<'a, 'b>(
     k: usize,
     x: usize,
-    list: &[u16],
-    input: &[u8],
+    chip: ChipTables<'a>,
+    group: GroupTables<'b>,
     goods: &[u64; WORDS],
     vals: &mut [u64; WORDS],
 )
     requires k_bound { (k < 16) × (length goods.now ≡ 16672) × (length vals.old ≡ 16672) }
-    requires k_in_bounds { (k < length list.now) × (get_or list.now k 0 < length input.now) }
-    ensures { VarPut k x list.now input.now (λ k j. get_or goods.now (16 * k + j) 0) vals.old vals.new }
+    requires k_in_bounds { (k < length group.variables.now) × (get_or group.variables.now k 0 < length chip.inputs.now) }
+    ensures { VarPut k x group.entry.variables.now chip.entry.inputs.now (λ k j. get_or goods.now (16 * k + j) 0) vals.old vals.new }
 {
-    if wide8(input[wide(list[k])]) == x {
+    if usize::from(chip.inputs[usize::from(group.variables[k])]) == x {
         events::restore_slot(goods, k, vals);
     }
 }
 
 // Puts the good words back into the variables of input x.
-fn free_input(
+fn free_input<'a, 'b>(
     x: usize,
-    w: usize,
-    list: &[u16],
-    input: &[u8],
+    chip: ChipTables<'a>,
+    group: GroupTables<'b>,
     goods: &[u64; WORDS],
     vals: &mut [u64; WORDS],
 )
-    requires w_bound { (w ≤ 16) × (length goods.now ≡ 16672) × (length vals.old ≡ 16672) }
-    requires w_in_bounds { (w ≤ length list.now) × ((k : ℕ) → k < w → get_or list.now k 0 < length input.now) }
-    ensures { VarsPut w x list.now input.now (λ k j. get_or goods.now (16 * k + j) 0) vals.old vals.new }
+    requires w_bound { (group.width ≤ 16) × (length goods.now ≡ 16672) × (length vals.old ≡ 16672) }
+    requires w_in_bounds { (group.width ≤ length group.variables.now) × ((k : ℕ) → k < group.width → get_or group.variables.now k 0 < length chip.inputs.now) }
+    ensures { VarsPut group.entry.width x group.entry.variables.now chip.entry.inputs.now (λ k j. get_or goods.now (16 * k + j) 0) vals.old vals.new }
 {
-    for k in 0..w {
-        free_one(k, x, list, input, goods, vals);
+    for k in 0..group.width {
+        free_one(k, x, chip, group, goods, vals);
     }
 }
 
@@ -210,91 +170,57 @@ fn free_input(
 fn look_input<'a, 'b>(
     f: usize,
     trial: Trial,
-    bytes: [&'a [u8]; 3],
-    tables: [&'a [u16]; 5],
-    group: [&'b [u16]; 3],
-    reach: &[u64; CELLS],
+    chip: ChipTables<'a>,
+    group: GroupTables<'b>,
     goods: &[u64; WORDS],
     vals: &mut [u64; WORDS],
-    left: &mut [u64; FAULTS],
-    best: &mut [u8; FAULTS],
-    pat: &mut [u32; FAULTS],
+    known: &mut Progress,
 )
-    requires chip { Chip trial.cells (kinds_of bytes) (counts_of bytes) (firsts_of tables) (slots_of group) (order_of tables) reach.now (heads_of tables) (readers_of tables) }
-    requires variable_readers { VariableReaders trial.cells trial.width (counts_of bytes) (firsts_of tables) (slots_of group) (order_of tables) (heads_of tables) (readers_of tables) (variables_of group) (inputs_of bytes) }
+    requires chip { ChipOn chip group.slots.now }
+    requires variable_readers { VariableReaders chip.sizes.cells group.width chip.counts.now chip.firsts.now group.slots.now chip.order.now chip.heads.now chip.readers.now group.variables.now chip.inputs.now }
     requires goods_len { (length goods.now ≡ 16672) × (vals.old ≡ goods.now) }
-    requires good { Good trial.cells trial.at (kinds_of bytes) (counts_of bytes) (firsts_of tables) (slots_of group) (order_of tables) reach.now goods.now }
-    requires chunk_bound { (trial.chunk < 4096) × (f < 10368) × (length (outs_of group) ≡ 64) × ((z : ℕ) → z < 64 → 16 * get_or (outs_of group) z 0 + 16 ≤ 16672) }
-    requires long { Long left.old best.old pat.old }
-    ensures input_tried { InputTried f trial.cells trial.width trial.chunk trial.at (kinds_of bytes.entry) (counts_of bytes.entry) (firsts_of tables.entry) (slots_of group.entry) (order_of tables.entry) reach.now (outs_of group.entry) (variables_of group.entry) (inputs_of bytes.entry) goods.now left.old best.old pat.old left.new best.new pat.new }
+    requires good { GoodOn chip group.slots.now trial.at goods.now }
+    requires chunk_bound { (trial.chunk < 4096) × (f < 10368) × (length group.outs.now ≡ 64) × ((z : ℕ) → z < 64 → 16 * get_or group.outs.now z 0 + 16 ≤ 16672) }
+    requires long { Long known.old.left known.old.best known.old.pat }
+    ensures input_tried { InputTried f chip.entry.sizes.cells group.entry.width trial.chunk trial.at chip.entry.kinds.now chip.entry.counts.now chip.entry.firsts.now group.entry.slots.now chip.entry.order.now chip.entry.reach.now group.entry.outs.now group.entry.variables.now chip.entry.inputs.now goods.now known.old.left known.old.best known.old.pat known.new.left known.new.best known.new.pat }
     ensures vals_after { vals.new ≡ goods.now }
 {
     let mut marks = [0u64; MARKS];
     let mut changed = [0u64; MARKS];
-    run_input(
-        f,
-        trial,
-        bytes,
-        tables,
-        group,
-        reach,
+    run_input(f, trial, chip, group, goods, vals, &mut marks, &mut changed);
+    let run = Run {
+        outs: group.outs,
+        ends: group.outs,
         goods,
         vals,
-        &mut marks,
-        &mut changed,
-    );
-    known::look_all(
-        f,
-        trial.chunk,
-        trial.at,
-        group[OUT],
-        group[OUT],
-        goods,
-        vals,
-        left,
-        best,
-        pat,
-    );
-    free_input(
-        f / 2,
-        trial.width,
-        group[VARIABLE],
-        bytes[INPUT],
-        goods,
-        vals,
-    );
-    events::restore(0, trial.cells, tables[ORDER], goods, &changed, vals);
+    };
+    known::look_all(f, trial.chunk, trial.at, run, known);
+    free_input(f / 2, chip, group, goods, vals);
+    events::restore(0, chip.sizes.cells, chip.order, goods, &changed, vals);
 }
 
 // Tries fault f, a stuck input, at the outputs that are left to it.
 fn try_input<'a, 'b>(
     f: usize,
     trial: Trial,
-    bytes: [&'a [u8]; 3],
-    tables: [&'a [u16]; 5],
-    group: [&'b [u16]; 3],
-    reach: &[u64; CELLS],
+    chip: ChipTables<'a>,
+    group: GroupTables<'b>,
     goods: &[u64; WORDS],
     vals: &mut [u64; WORDS],
-    left: &mut [u64; FAULTS],
-    best: &mut [u8; FAULTS],
-    pat: &mut [u32; FAULTS],
+    known: &mut Progress,
 )
-    requires chip { Chip trial.cells (kinds_of bytes) (counts_of bytes) (firsts_of tables) (slots_of group) (order_of tables) reach.now (heads_of tables) (readers_of tables) }
-    requires variable_readers { VariableReaders trial.cells trial.width (counts_of bytes) (firsts_of tables) (slots_of group) (order_of tables) (heads_of tables) (readers_of tables) (variables_of group) (inputs_of bytes) }
-    requires inputs_bound { (trial.inputs ≤ 64) × (f < 2 * trial.inputs) × (vals.old ≡ goods.now) }
-    requires good_run { GoodRun trial.cells trial.chunk trial.at (kinds_of bytes) (counts_of bytes) (firsts_of tables) (slots_of group) (order_of tables) reach.now (outs_of group) goods.now }
-    requires long { Long left.old best.old pat.old }
-    ensures went { Went (λ x. x ≡ f) (InputStep trial.inputs trial.cells trial.width trial.chunk trial.at (kinds_of bytes.entry) (counts_of bytes.entry) (firsts_of tables.entry) (slots_of group.entry) (order_of tables.entry) reach.now (outs_of group.entry) (variables_of group.entry) (inputs_of bytes.entry) goods.now) left.old best.old pat.old left.new best.new pat.new }
+    requires chip { ChipOn chip group.slots.now }
+    requires variable_readers { VariableReaders chip.sizes.cells group.width chip.counts.now chip.firsts.now group.slots.now chip.order.now chip.heads.now chip.readers.now group.variables.now chip.inputs.now }
+    requires inputs_bound { (chip.sizes.inputs ≤ 64) × (f < 2 * chip.sizes.inputs) × (vals.old ≡ goods.now) }
+    requires good_run { GoodRun chip.sizes.cells trial.chunk trial.at chip.kinds.now chip.counts.now chip.firsts.now group.slots.now chip.order.now chip.reach.now group.outs.now goods.now }
+    requires long { Long known.old.left known.old.best known.old.pat }
+    ensures went { Went (λ x. x ≡ f) (InputStep chip.entry.sizes.inputs chip.entry.sizes.cells group.entry.width trial.chunk trial.at chip.entry.kinds.now chip.entry.counts.now chip.entry.firsts.now group.entry.slots.now chip.entry.order.now chip.entry.reach.now group.entry.outs.now group.entry.variables.now chip.entry.inputs.now goods.now) known.old.left known.old.best known.old.pat known.new.left known.new.best known.new.pat }
     ensures vals_after { vals.new ≡ goods.now }
 {
-    let u = left[f] & trial.at;
+    let u = known.left[f] & trial.at;
     if u != 0 {
-        let mut t = trial;
-        t.at = u;
-        look_input(
-            f, t, bytes, tables, group, reach, goods, vals, left, best, pat,
-        );
+        let narrowed = Trial { at: u, ..trial };
+        look_input(f, narrowed, chip, group, goods, vals, known);
     }
 }
 
@@ -302,28 +228,21 @@ fn try_input<'a, 'b>(
 // Open: what is known of these faults, but for how one chunk more takes it on: the tables need not be a chip's, and what was known before need not be right.
 pub fn try_inputs<'a, 'b>(
     trial: Trial,
-    bytes: [&'a [u8]; 3],
-    tables: [&'a [u16]; 5],
-    group: [&'b [u16]; 3],
-    reach: &[u64; CELLS],
+    chip: ChipTables<'a>,
+    group: GroupTables<'b>,
     goods: &[u64; WORDS],
     vals: &mut [u64; WORDS],
-    left: &mut [u64; FAULTS],
-    best: &mut [u8; FAULTS],
-    pat: &mut [u32; FAULTS],
+    known: &mut Progress,
 )
-    requires chip { Chip trial.cells (kinds_of bytes) (counts_of bytes) (firsts_of tables) (slots_of group) (order_of tables) reach.now (heads_of tables) (readers_of tables) }
-    requires variable_readers { VariableReaders trial.cells trial.width (counts_of bytes) (firsts_of tables) (slots_of group) (order_of tables) (heads_of tables) (readers_of tables) (variables_of group) (inputs_of bytes) }
-    requires inputs_bound { (trial.inputs ≤ 64) × (vals.old ≡ goods.now) }
-    requires good_run { GoodRun trial.cells trial.chunk trial.at (kinds_of bytes) (counts_of bytes) (firsts_of tables) (slots_of group) (order_of tables) reach.now (outs_of group) goods.now }
-    requires long { Long left.old best.old pat.old }
-    ensures went { Went (λ f. f < 2 * trial.inputs) (InputStep trial.inputs trial.cells trial.width trial.chunk trial.at (kinds_of bytes.entry) (counts_of bytes.entry) (firsts_of tables.entry) (slots_of group.entry) (order_of tables.entry) reach.now (outs_of group.entry) (variables_of group.entry) (inputs_of bytes.entry) goods.now) left.old best.old pat.old left.new best.new pat.new }
+    requires chip { ChipOn chip group.slots.now }
+    requires variable_readers { VariableReaders chip.sizes.cells group.width chip.counts.now chip.firsts.now group.slots.now chip.order.now chip.heads.now chip.readers.now group.variables.now chip.inputs.now }
+    requires inputs_bound { (chip.sizes.inputs ≤ 64) × (vals.old ≡ goods.now) }
+    requires good_run { GoodRun chip.sizes.cells trial.chunk trial.at chip.kinds.now chip.counts.now chip.firsts.now group.slots.now chip.order.now chip.reach.now group.outs.now goods.now }
+    requires long { Long known.old.left known.old.best known.old.pat }
+    ensures went { Went (λ f. f < 2 * chip.entry.sizes.inputs) (InputStep chip.entry.sizes.inputs chip.entry.sizes.cells group.entry.width trial.chunk trial.at chip.entry.kinds.now chip.entry.counts.now chip.entry.firsts.now group.entry.slots.now chip.entry.order.now chip.entry.reach.now group.entry.outs.now group.entry.variables.now chip.entry.inputs.now goods.now) known.old.left known.old.best known.old.pat known.new.left known.new.best known.new.pat }
     ensures vals_after { vals.new ≡ goods.now }
 {
-    let i = trial.inputs;
-    for f in 0..2 * i {
-        try_input(
-            f, trial, bytes, tables, group, reach, goods, vals, left, best, pat,
-        );
+    for f in 0..2 * chip.sizes.inputs {
+        try_input(f, trial, chip, group, goods, vals, known);
     }
 }

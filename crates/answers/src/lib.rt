@@ -1,149 +1,91 @@
 #![tactic(auto)]
 // The lines of the program `calls`: for each call its answer, and the whole of the buffer that was lent to it.
-ghost use Rattle.std.specs.Prelude.{ℕ, ◌≤◌, ◌≡◌, List};
+ghost use Rattle.std.specs.Prelude.{ℕ, ◌≡◌, List};
 ghost use Rattle.chip.specs.Format.{read_of};
 ghost use Rattle.netlist.specs.Answer.{tables_of};
 ghost use Rattle.netlist.specs.Inner.Holds.{Holds};
 
-use chip::{Checked, Classed, ReadBack, Searched, Setting, Sizes, Transformed};
-use lines::Buffer;
-use netlist::{Reading, Tables};
+use chip::{Classed, Refusal, Searched, Sight, Sizes};
+use lines::Line;
+use netlist::Tables;
 
-fn sizes(z: Sizes, line: &mut Buffer, used: &mut usize) {
-    lines::field(line, used, b"taken in ", z.inputs);
-    lines::field(line, used, b" cells ", z.cells);
-    lines::field(line, used, b" out ", z.outputs);
-    lines::field(line, used, b" pins ", z.pins);
-}
-
-// The tables of a file that is taken.
-fn tables(t: Tables, z: Sizes, line: &mut Buffer, used: &mut usize)
-    requires { (file : List ℕ) × Holds file t z }
-    ensures { used.new ≤ 65536 }
+// The sizes of a file that is taken, and its tables.
+fn tables(t: Tables, line: &mut Line)
+    requires { (file : List ℕ) × Holds file t }
 {
-    let pads = t.pads;
-    let kinds = t.kinds;
-    let counts = t.counts;
-    let nets = t.nets;
-    lines::hex(line, used, &pads, z.inputs + z.outputs);
-    lines::hex(line, used, &kinds, z.cells);
-    lines::hex(line, used, &counts, z.cells);
-    lines::hex_words(line, used, &nets, z.pins);
+    let Sizes {
+        inputs,
+        cells,
+        outputs,
+        pins,
+    } = t.sizes;
+    write!(
+        line,
+        "taken in {inputs} cells {cells} out {outputs} pins {pins}"
+    );
+    line.hex(&t.pads[..inputs + outputs]);
+    line.hex(&t.kinds[..cells]);
+    line.hex(&t.counts[..cells]);
+    line.hex_words(&t.nets[..pins]);
 }
 
+// The sizes and tables of a file, or its refusal.
 // Open: the bytes of the buffer and how many wait: what is printed is compared, and what a write does is outside the program.
-pub fn read(t: Tables, line: &mut Buffer, used: &mut usize)
-    requires { (file : List ℕ) × (t ≡ tables_of (read_of file)) }
-    ensures { used.new ≤ 65536 }
-{
-    match t.reading {
-        Reading::Refused(k, p) => {
-            lines::refused(line, used, k, p);
-        }
-        Reading::Taken(z) => {
-            sizes(z, line, used);
-            tables(t, z, line, used);
-        }
-    }
-}
-
-// Open: the bytes of the buffer and how many wait: what is printed is compared, and what a write does is outside the program.
-pub fn class(r: Classed, line: &mut Buffer, used: &mut usize)
-    ensures { used.new ≤ 65536 }
+pub fn read(r: Result<Tables, Refusal>, line: &mut Line)
+    requires { (file : List ℕ) × (r ≡ tables_of (read_of file)) }
 {
     match r {
-        Classed::Refused(k, p) => {
-            lines::refused(line, used, k, p);
-        }
-        Classed::Class(k, d, b) => {
-            lines::field(line, used, b"class ", k as usize);
-            lines::field(line, used, b" depth ", d);
-            lines::field(line, used, b" blocks ", b);
-        }
+        Ok(t) => tables(t, line),
+        Err(refusal) => write!(line, "{refusal}"),
     }
 }
 
+// The class of a file.
 // Open: the bytes of the buffer and how many wait: what is printed is compared, and what a write does is outside the program.
-pub fn transformed(r: Transformed, lent: &[u8], line: &mut Buffer, used: &mut usize)
-    ensures { used.new ≤ 65536 }
-{
+pub fn class(r: Result<Classed, Refusal>, line: &mut Line) {
     match r {
-        Transformed::Written(n) => {
-            lines::field(line, used, b"written ", n);
+        Ok(named) => {
+            let Classed {
+                class,
+                depth,
+                blocks,
+            } = named;
+            write!(line, "class {class} depth {depth} blocks {blocks}");
         }
-        Transformed::Refused(k, p) => {
-            lines::refused(line, used, k, p);
-        }
-    }
-    lines::hex(line, used, lent, lent.len());
-}
-
-// A pattern set for an output.
-// Open: the bytes of the buffer and how many wait: what is printed is compared, and what a write does is outside the program.
-pub fn set(r: Setting, lent: &[u8], line: &mut Buffer, used: &mut usize)
-    ensures { used.new ≤ 65536 }
-{
-    match r {
-        Setting::Set(n) => {
-            lines::field(line, used, b"set ", n);
-        }
-        Setting::Refused(k, p) => {
-            lines::refused(line, used, k, p);
-        }
-    }
-    lines::hex(line, used, lent, lent.len());
-}
-
-// A pattern read back for an output at a clock.
-// Open: the bytes of the buffer and how many wait: what is printed is compared, and what a write does is outside the program.
-pub fn read_back(r: ReadBack, lent: &[u8], line: &mut Buffer, used: &mut usize)
-    ensures { used.new ≤ 65536 }
-{
-    match r {
-        ReadBack::Read(n) => {
-            lines::field(line, used, b"read ", n);
-        }
-        ReadBack::Refused(k, p) => {
-            lines::refused(line, used, k, p);
-        }
-    }
-    lines::hex(line, used, lent, lent.len());
-}
-
-// Open: the bytes of the buffer and how many wait: what is printed is compared, and what a write does is outside the program.
-pub fn checked(r: Checked, line: &mut Buffer, used: &mut usize)
-    ensures { used.new ≤ 65536 }
-{
-    match r {
-        Checked::Shown(t, z) => {
-            lines::field(line, used, b"shown clock ", t);
-            lines::field(line, used, b" output ", z);
-        }
-        Checked::NotSeen => {
-            lines::text(line, used, b"not seen");
-        }
-        Checked::Refused(k, p) => {
-            lines::refused(line, used, k, p);
-        }
+        Err(refusal) => write!(line, "{refusal}"),
     }
 }
 
+// A file, a play or a pattern that was put into a lent buffer: the word for it, and how many bytes it has.
 // Open: the bytes of the buffer and how many wait: what is printed is compared, and what a write does is outside the program.
-pub fn searched(r: Searched, lent: &[u8], line: &mut Buffer, used: &mut usize)
-    ensures { used.new ≤ 65536 }
-{
+pub fn put(word: &str, r: Result<usize, Refusal>, lent: &[u8], line: &mut Line) {
     match r {
-        Searched::Found(z, m, k) => {
-            lines::field(line, used, b"found out ", z);
-            lines::field(line, used, b" pattern ", m);
-            lines::field(line, used, b" tries ", k);
-        }
-        Searched::Untestable(k) => {
-            lines::field(line, used, b"untestable tries ", k);
-        }
-        Searched::Refused(k, p) => {
-            lines::refused(line, used, k, p);
-        }
+        Ok(n) => write!(line, "{word} {n}"),
+        Err(refusal) => write!(line, "{refusal}"),
     }
-    lines::hex(line, used, lent, lent.len());
+    line.hex(lent);
+}
+
+// A play that is checked against a fault.
+// Open: the bytes of the buffer and how many wait: what is printed is compared, and what a write does is outside the program.
+pub fn checked(r: Result<Option<Sight>, Refusal>, line: &mut Line) {
+    match r {
+        Ok(Some(sight)) => {
+            let Sight { clock, output } = sight;
+            write!(line, "shown clock {clock} output {output}");
+        }
+        Ok(None) => write!(line, "not seen"),
+        Err(refusal) => write!(line, "{refusal}"),
+    }
+}
+
+// A play that is searched for a fault.
+// Open: the bytes of the buffer and how many wait: what is printed is compared, and what a write does is outside the program.
+pub fn searched(r: Searched, lent: &[u8], line: &mut Line) {
+    match r {
+        Searched::Found(z, m, k) => write!(line, "found out {z} pattern {m} tries {k}"),
+        Searched::Untestable(k) => write!(line, "untestable tries {k}"),
+        Searched::Refused(refusal) => write!(line, "{refusal}"),
+    }
+    line.hex(lent);
 }

@@ -1,13 +1,11 @@
 -- What the inputs' nets tell of the branches: an input reaches what its branches reach.
 use Prim.Native.Nat.{ℕ, ◌+◌, ◌≤◌, ◌<◌}
-use mathlib.Core.Path.{◌≡◌, refl, sym, ap, ◌∙◌}
-use mathlib.Core.Logic.{◌⊎◌, inl, inr, ◌≢◌}
+use mathlib.Core.Path.{◌≡◌, sym, ap, ◌∙◌}
+use mathlib.Core.Logic.{◌⊎◌, inl, inr}
 use mathlib.Core.List.{List}
 use native.Mathlib.Omega.{arith}
 use native.Mathlib.Decide.{ℕ_discrete, dec_lt}
-use lib.ListN.{length, get_or, set}
-use lib.Seq.{get_or-set_same, get_or-set_other}
-use lib.Bits.{bit_or, bit_and}
+use lib.ListN.{get_or}
 use Rattle.chip.specs.Netlist.{Netlist}
 use Rattle.chip.specs.Inner.Limits.{Sound}
 use Rattle.chip.specs.Pads.{source}
@@ -18,48 +16,8 @@ use Rattle.chip.proofs.Pads.{source_input}
 use Rattle.chip.proofs.Plain.{to_branch, from_branch}
 use Rattle.levels.specs.Levels.{Mask, NetReach, NetMasks, NetsReach}
 use Rattle.levels.proofs.Masks.{mask_same, mask_or, mask_empty}
-use Rattle.balance.specs.Balance.{SeenAt, SeenMasks, InputsMet, Least, LowestConflict}
+use Rattle.balance.specs.Balance.{SeenAt, SeenMasks, InputsMet, LowestConflict}
 use Rattle.balance.proofs.Laws.{met, unmet}
-
--- ---- one input more
-
-pub met_none : (reached seen : List ℕ) (best : ℕ) → InputsMet 0 reached seen best seen best
-met_none reached seen best =
-    record { grown = λ x l. absurd (omega arith); others = λ x l. refl; upto = omega arith; meets = λ l. absurd (omega arith); apart = λ x l. absurd (omega arith) }
-
-module _ (reached seen : List ℕ) (best x : ℕ) (seen' : List ℕ) (r s : ℕ) (long : length seen' ≡ 64) (low : x < 64) (m : InputsMet x reached seen best seen' r)
-    (k : Least (bit_and (get_or seen' x 0) (get_or reached x 0)) x r s) where
-  pub met_more : InputsMet (x + 1) reached seen best (set seen' x (bit_or (get_or seen' x 0) (get_or reached x 0))) s
-  met_more =
-      record {
-        grown = λ y l. grow y l (ℕ_discrete y x);
-        others = λ y l. get_or-set_other seen' x y _ 0 (omega arith) ∙ m.others y (omega arith);
-        upto = bound (ℕ_discrete s r);
-        meets = λ l. meet l (ℕ_discrete s r);
-        apart = λ y l h. far y l h (ℕ_discrete y x) (ℕ_discrete s r);
-      }
-    where
-      old : get_or seen' x 0 ≡ get_or seen x 0
-      old = m.others x (omega arith)
-
-      grow : (y : ℕ) → y < x + 1 → Dec (y ≡ x) → get_or (set seen' x (bit_or (get_or seen' x 0) (get_or reached x 0))) y 0 ≡ bit_or (get_or seen y 0) (get_or reached y 0)
-      grow y l (yes q) = rw (q, get_or-set_same seen' x (bit_or (get_or seen' x 0) (get_or reached x 0)) 0 (omega arith), old) refl
-      grow y l (no g) = get_or-set_other seen' x y _ 0 g ∙ m.grown y (omega arith)
-
-      bound : Dec (s ≡ r) → s ≤ best
-      bound (yes q) = omega (arith, m.upto)
-      bound (no g) = omega (arith, m.upto, (k.taken g).0, (k.taken g).1)
-
-      meet : s < best → Dec (s ≡ r) → (s < x + 1) × (bit_and (get_or seen s 0) (get_or reached s 0) ≢ 0)
-      meet l (yes q) = let t = m.meets (omega arith) in (omega (arith, t.0), rw q t.1)
-      meet l (no g) = let (a, _, c) = k.taken g in (omega arith, rw (a, sym old) c)
-
-      far : (y : ℕ) → y < x + 1 → y < s → Dec (y ≡ x) → Dec (s ≡ r) → bit_and (get_or seen y 0) (get_or reached y 0) ≡ 0
-      far y l h (yes q) _ = rw (q, sym old) (k.left (omega arith))
-      far y l h (no g) (yes q) = m.apart y (omega arith) (omega arith)
-      far y l h (no g) (no f) = m.apart y (omega arith) (omega (arith, (k.taken f).0, (k.taken f).1))
-
--- ---- what it tells of a netlist
 
 module _ (N : Netlist) (S : Sound N) (R : Ranked N) where
   -- an input's net reaches what a branch of the input does

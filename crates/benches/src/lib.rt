@@ -2,23 +2,21 @@
 // The tables that a group of outputs is tried on: those of the chip, which no group changes, and those of the group.
 ghost use Rattle.std.specs.Prelude.{◌≡◌, ◌≢◌, List, ℕ, ◌+◌, ◌-◌, ◌≤◌, ◌<◌, length, get_or};
 ghost use Rattle.chip.specs.Inner.Limits.{InLimits};
-ghost use Rattle.chip.specs.Inner.Tables.{tabled, sized, FirstPins};
+ghost use Rattle.chip.specs.Inner.Tables.{tabled, FirstPins};
 ghost use Rattle.chip.specs.Class.{tally};
 ghost use Rattle.order.specs.Order.{Ordered};
 ghost use Rattle.pads.specs.Sources.{SourceTable};
 ghost use Rattle.structure.specs.Inner.Shape.{Ready};
 ghost use Rattle.structure.specs.declared.Shape.{Shape};
+ghost use Rattle.opening.specs.Open.{netlist_of};
 ghost use Rattle.slots.specs.Slots.{rel_of};
 ghost use Rattle.readers.specs.Readers.{Heads};
 ghost use Rattle.stages.specs.Stage.{Watch};
-ghost use Rattle.events.specs.Lent.{nets_of, branches_of, blocks_of};
 ghost use Rattle.benches.specs.Benches.{Blocked, BlockInputs, Fitted, BegunAt, BlockList, OutSlots, Benched};
 
-use chip::{
-    BLOCKS, Block, Branches, Counts, Firsts, Nets, Order, PINS, PinWords, Reached, Sizes, wide,
-    wide8,
-};
-use events::{BLOCK, BRANCH, NET};
+use chip::{BLOCKS, Block, Branches, Nets, PinWords, Reached};
+use events::ChipTables;
+use opening::Chip;
 
 // The input of each block, by the n pins.
 fn block_inputs(i: usize, n: usize, branches: &Branches, block: &Block, input: &mut [u8])
@@ -26,8 +24,8 @@ fn block_inputs(i: usize, n: usize, branches: &Branches, block: &Block, input: &
     ensures { BlockInputs i n branches.now block.now input.new }
 {
     for p in 0..n {
-        if wide(branches[p]) < i {
-            input[wide(block[p])] = branches[p] as u8;
+        if usize::from(branches[p]) < i {
+            input[usize::from(block[p])] = branches[p] as u8;
         }
     }
 }
@@ -38,56 +36,40 @@ fn block_list(z: usize, b: usize, reached: &Reached, list: &mut [u16])
     ensures { BlockList b (rel_of reached.now z) list.new }
 {
     let mut w = 0;
-    let mut k = 0;
-    while k < b {
+    for k in 0..b {
         if words::has_bit(reached[k], z) {
             list[w] = k as u16;
             w += 1;
         }
-        k += 1;
     }
 }
 
 // The outputs left to the faults of cell j, or none if it is a pad buffer.
-fn open_of(
-    i: usize,
-    c: usize,
-    j: usize,
-    counts: &Counts,
-    firsts: &Firsts,
-    sources: &[u16],
-    left: &[u64],
-) -> u64
-    requires i_bound { (i ≤ 64) × (c ≤ 1024) × (j < c) × (length sources.now ≡ 1088) × (length left.now ≡ 10368) }
-    requires j_bound { get_or firsts.now j 0 + get_or counts.now j 0 ≤ 4096 }
-    ensures { BegunAt i c j counts.now firsts.now sources.now left.now result }
+fn open_of(opened: &Chip, j: usize, sources: &[u16], left: &[u64]) -> u64
+    requires i_bound { (opened.now.sizes.inputs ≤ 64) × (opened.now.sizes.cells ≤ 1024) × (j < opened.now.sizes.cells) × (length sources.now ≡ 1088) × (length left.now ≡ 10368) }
+    requires j_bound { get_or opened.now.firsts j 0 + get_or opened.now.counts j 0 ≤ 4096 }
+    ensures { BegunAt opened.now.sizes.inputs opened.now.sizes.cells j opened.now.counts opened.now.firsts sources.now left.now result }
 {
-    if wide(sources[i + j]) < i {
+    let i = opened.sizes.inputs;
+    let c = opened.sizes.cells;
+    if usize::from(sources[i + j]) < i {
         return 0;
     }
-    stages::left_at(i + j, i + c + wide(firsts[j]), wide8(counts[j]), left)
+    let pin = i + c + usize::from(opened.firsts[j]);
+    stages::left_at(i + j, pin, usize::from(opened.counts[j]), left)
 }
 
 // The outputs left to the faults of each place before the first group.
 // Open: further outputs of cells, and entries past the cells: outputs too many cost work and no answer.
-pub fn start_groups(
-    i: usize,
-    c: usize,
-    counts: &Counts,
-    firsts: &Firsts,
-    order: &Order,
-    sources: &[u16],
-    left: &[u64],
-    groups: &mut [u64],
-)
-    requires by_index { (o : ℕ) × (kinds : List ℕ) × (nets : List ℕ) × InLimits (tabled i c o kinds counts.now nets) × FirstPins (tabled i c o kinds counts.now nets) firsts.now
-        × Ordered (tabled i c o kinds counts.now nets) order.now × SourceTable (tabled i c o kinds counts.now nets) sources.now }
+pub fn start_groups(opened: &Chip, sources: &[u16], left: &[u64], groups: &mut [u64])
+    requires by_index { (o : ℕ) × (kinds : List ℕ) × (nets : List ℕ) × InLimits (tabled opened.now.sizes.inputs opened.now.sizes.cells o kinds opened.now.counts nets) × FirstPins (tabled opened.now.sizes.inputs opened.now.sizes.cells o kinds opened.now.counts nets) opened.now.firsts
+        × Ordered (tabled opened.now.sizes.inputs opened.now.sizes.cells o kinds opened.now.counts nets) opened.now.order × SourceTable (tabled opened.now.sizes.inputs opened.now.sizes.cells o kinds opened.now.counts nets) sources.now }
     requires left_len { (length left.now ≡ 10368) × (length groups.old ≡ 1024) }
-    ensures { (o : ℕ) (kinds nets : List ℕ) → Ordered (tabled i c o kinds counts.now nets) order.now → SourceTable (tabled i c o kinds counts.now nets) sources.now
-        → Watch i c (tabled i c o kinds counts.now nets) counts.now firsts.now order.now left.now groups.new }
+    ensures { (o : ℕ) (kinds nets : List ℕ) → Ordered (tabled opened.now.sizes.inputs opened.now.sizes.cells o kinds opened.now.counts nets) opened.now.order → SourceTable (tabled opened.now.sizes.inputs opened.now.sizes.cells o kinds opened.now.counts nets) sources.now
+        → Watch opened.now.sizes.inputs opened.now.sizes.cells (tabled opened.now.sizes.inputs opened.now.sizes.cells o kinds opened.now.counts nets) opened.now.counts opened.now.firsts opened.now.order left.now groups.new }
 {
-    for t in 0..c {
-        groups[t] = open_of(i, c, wide(order[t]), counts, firsts, sources, left);
+    for t in 0..opened.sizes.cells {
+        groups[t] = open_of(opened, usize::from(opened.order[t]), sources, left);
     }
 }
 
@@ -96,47 +78,44 @@ fn out_slots(o: usize, n: usize, src: &Nets, outs: &mut [u16])
     requires { (o ≤ 64) × (o ≤ n) × (n ≤ 4096) × OutSlots 0 o n src.now outs.old }
     ensures { OutSlots o o n src.now outs.new }
 {
-    for y in 0..o {
-        outs[y] = src[n - o + y];
-    }
+    outs[..o].copy_from_slice(&src[n - o..n]);
 }
 
 // The tables of a group that output y is one of. Answers how many variables there are.
 // Open: entries past the pins and the width, and of branches of blocks past the count: tables of 4,096 and 16 of which a part is in use.
-pub fn bench(
-    z: Sizes,
+pub fn bench<'a>(
+    chip: ChipTables<'a>,
     y: usize,
-    b: usize,
-    nets: &Nets,
-    branches: &Branches,
-    block: &Block,
-    reached: &Reached,
     src: &mut Nets,
     outs: &mut [u16],
     list: &mut [u16],
 ) -> usize
-    requires heads { Heads z.inputs z.pins branches.now nets.now block.now }
-    requires y_lt_outputs { (y < z.outputs) × (z.outputs ≤ 64) × (z.outputs ≤ z.pins) × (b ≤ 4160) × (tally (rel_of reached.now y) b ≤ 16) }
+    requires heads { Heads chip.sizes.inputs chip.sizes.pins chip.branches.now chip.nets.now chip.block.now }
+    requires y_lt_outputs { (y < chip.sizes.outputs) × (chip.sizes.outputs ≤ 64) × (chip.sizes.outputs ≤ chip.sizes.pins) × (chip.blocks ≤ 4160) × (tally (rel_of chip.reached.now y) chip.blocks ≤ 16) }
     requires outs_len { (length outs.old ≡ 64) × ((x : ℕ) → get_or outs.old x 0 ≡ 0) × (length list.old ≡ 16) }
-    ensures { Benched y z.inputs z.outputs z.pins b result nets.now branches.now block.now reached.now src.new outs.new list.new }
+    ensures { Benched y chip.entry.sizes.inputs chip.entry.sizes.outputs chip.entry.sizes.pins chip.entry.blocks result chip.entry.nets.now chip.entry.branches.now chip.entry.block.now chip.entry.reached.now src.new outs.new list.new }
 {
+    let z = chip.sizes;
     let mut slots = [0u16; BLOCKS];
-    let w = slots::variables(y, b, reached, &mut slots);
-    slots::pin_slots(z.inputs, z.pins, &slots, branches, nets, block, src);
+    let w = slots::variables(y, chip.blocks, chip.reached, &mut slots);
+    slots::pin_slots(
+        z.inputs,
+        z.pins,
+        &slots,
+        chip.branches,
+        chip.nets,
+        chip.block,
+        src,
+    );
     out_slots(z.outputs, z.pins, src, outs);
-    block_list(y, b, reached, list);
+    block_list(y, chip.blocks, chip.reached, list);
     w
 }
 
-// The tables of a chip of class 2 or 3. There are as many readers as pins of cells. The kinds are lent for their number.
+// The tables of a chip of class 2 or 3. There are as many readers as pins of cells.
 // Open: entries past the cells, blocks without a branch, and the order of the readers: each reader is found, in whatever order.
-pub fn chip_tables<'a>(
-    z: Sizes,
-    kinds: &[u8],
-    counts: &Counts,
-    firsts: &Firsts,
-    order: &Order,
-    pins: [&'a [u16; PINS]; 3],
+pub fn chip_tables(
+    opened: &Chip,
     cone: &PinWords,
     reach: &mut [u64],
     heads: &mut [u16],
@@ -144,27 +123,26 @@ pub fn chip_tables<'a>(
     input: &mut [u8],
 )
     requires by_index { (s : Shape) × (reached : List ℕ) × (s.class ≢ 1)
-        × Ready (sized z kinds.now counts.now (nets_of pins)) z.pins s firsts.now order.now (branches_of pins) (blocks_of pins) reached }
-    requires kinds_len { (length kinds.now ≡ 1024) × (length reach.old ≡ 1024) × (length input.old ≡ 4160) }
+        × Ready (netlist_of opened.now) opened.now.sizes.pins s opened.now.firsts opened.now.order opened.now.branches opened.now.block reached }
+    requires reach_len { (length reach.old ≡ 1024) × (length input.old ≡ 4160) }
     requires heads_len { (length heads.old ≡ 5185) × ((x : ℕ) → get_or heads.old x 0 ≡ 0) }
-    requires readers_len { (length readers.old ≡ z.pins - z.outputs) × ((x : ℕ) → get_or readers.old x 0 ≡ 0) }
-    ensures { Fitted z.inputs z.cells z.outputs z.pins kinds.now counts.now firsts.now (nets_of pins.entry) order.now (branches_of pins.entry) (blocks_of pins.entry) cone.now reach.new heads.new readers.new input.new }
+    requires readers_len { (length readers.old ≡ opened.now.sizes.pins - opened.now.sizes.outputs) × ((x : ℕ) → get_or readers.old x 0 ≡ 0) }
+    ensures { Fitted opened.now.sizes.inputs opened.now.sizes.cells opened.now.sizes.outputs opened.now.sizes.pins opened.now.kinds opened.now.counts opened.now.firsts opened.now.nets opened.now.order opened.now.branches opened.now.block cone.now reach.new heads.new readers.new input.new }
 {
-    let o = z.outputs;
-    let n = z.pins;
-    readers::reaches(z.cells, firsts, order, cone, reach);
+    let z = opened.sizes;
+    readers::reaches(z.cells, &opened.firsts, &opened.order, cone, reach);
     readers::build(
         z.inputs,
         z.cells,
-        n - o,
-        counts,
-        firsts,
-        pins[BRANCH],
-        pins[NET],
-        order,
-        pins[BLOCK],
+        z.pins - z.outputs,
+        &opened.counts,
+        &opened.firsts,
+        &opened.branches,
+        &opened.nets,
+        &opened.order,
+        &opened.block,
         heads,
         readers,
     );
-    block_inputs(z.inputs, n, pins[BRANCH], pins[BLOCK], input);
+    block_inputs(z.inputs, z.pins, &opened.branches, &opened.block, input);
 }

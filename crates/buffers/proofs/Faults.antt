@@ -1,6 +1,6 @@
 -- What the run of a fault tells of it, and one fault after the other.
 use Prim.Native.Nat.{ℕ, suc, ◌+◌, ◌-◌, ◌*◌, ◌/◌, ◌%◌, ◌≤◌, ◌<◌}
-use mathlib.Core.Path.{◌≡◌, refl, sym, ap, ◌∙◌}
+use mathlib.Core.Path.{◌≡◌, refl, sym, ap, subst, ◌∙◌}
 use mathlib.Core.Logic.{◌≢◌, ◌⊎◌, ◌↔◌, inl, inr, ⊎_elim}
 use mathlib.Core.Bool.{Bool, true, xor, false≢true}
 use mathlib.Core.List.{List}
@@ -25,16 +25,32 @@ use Rattle.known.specs.Setting.{Shows, Setting, Long, lane_of_run, Went}
 use Rattle.known.proofs.Steps.{looked_idle, looked_kept, looked_advance, went_both, went_same}
 use Rattle.known.proofs.Runs.{start_of, rules_of}
 use Rattle.rows.proofs.Bits.{meet}
-use Rattle.buffers.specs.Buffers.{Tables, Faulty, FaultRan, FaultStep, PadFault}
+use Rattle.buffers.specs.Buffers.{Tables, Faulty, FaultRan, FaultStep, CellFault}
 use Rattle.buffers.proofs.Slots.{chunk_kept}
 
--- fault e of those of all cells, four to a cell: two of its net, and two of its pin
-abbrev pub pad_number : ℕ → ℕ → List ℕ → ℕ → ℕ
-pad_number i c firsts e = number_of (e % 4) (i + e / 4) (i + c + get_or firsts (e / 4) 0)
+-- fault f is one of the first m of a net and a pin: two of the net, then two of the pin
+abbrev pub SiteFault : ℕ → ℕ → ℕ → ℕ → Type 0
+SiteFault m net pin f = (e : ℕ) × (e < m) × (f ≡ number_of e net pin)
 
--- fault f is one of the first m, and its cell is a pad buffer
+-- fault f is one of a pad buffer that is one of the first m cells
 abbrev pub PadsBelow : ℕ → ℕ → ℕ → List ℕ → List ℕ → ℕ → Type 0
-PadsBelow m i c firsts sources f = (e : ℕ) × (e < m) × (get_or sources (i + e / 4) 0 < i) × (f ≡ pad_number i c firsts e)
+PadsBelow m i c firsts sources f = (j : ℕ) × (j < m) × (get_or sources (i + j) 0 < i) × CellFault i c firsts j f
+
+-- the site of each of the first four
+pub site_of : (e net pin : ℕ) → e < 4 → (number_of e net pin / 2 ≡ net) ⊎ (number_of e net pin / 2 ≡ pin)
+site_of e net pin l = elim (dec_lt e 2) [
+  | yes h ↦ inl (omega (arith, number_low e net pin h))
+  | no h ↦ inr (omega (arith, number_high e net pin (omega arith)))
+]
+
+numbers_apart : (d e net pin : ℕ) → net < pin → d < e → number_of d net pin ≢ number_of e net pin
+numbers_apart d e net pin n l q = elim (dec_lt e 2) [
+  | yes h ↦ omega (arith, number_low d net pin (omega arith), number_low e net pin h, q)
+  | no h ↦ elim (dec_lt d 2) [
+    | yes y ↦ omega (arith, number_low d net pin y, number_high e net pin (omega arith), q)
+    | no y ↦ omega (arith, number_high d net pin (omega arith), number_high e net pin (omega arith), q)
+  ]
+]
 
 module _ (i c o n q g : ℕ) (kinds counts firsts nets order branches reach src outs goods : List ℕ) (T : Tables i c o n q g kinds counts firsts nets order branches reach src outs goods) where
   -- ---- one fault
@@ -89,71 +105,65 @@ module _ (i c o n q g : ℕ) (kinds counts firsts nets order branches reach src 
         });
       }
 
-  -- ---- the faults of pad buffers, four to a cell
+  -- ---- the four faults of a cell
+
+  module _ (net pin : ℕ) (apart : net < pin) (left₀ best₀ pat₀ left best pat : List ℕ) where
+    pub site_more : (m f : ℕ) (left' best' pat' : List ℕ) → f ≡ number_of m net pin → Went (SiteFault m net pin) (FaultStep i c o q g kinds counts firsts nets order reach src outs goods) left₀ best₀ pat₀ left best pat
+        → Went (λ x. x ≡ f) (FaultStep i c o q g kinds counts firsts nets order reach src outs goods) left best pat left' best' pat' → Went (SiteFault (m + 1) net pin) (FaultStep i c o q g kinds counts firsts nets order reach src outs goods) left₀ best₀ pat₀ left' best' pat'
+    site_more m f left' best' pat' s P Q =
+        went_both (FaultStep i c o q g kinds counts firsts nets order reach src outs goods) left₀ best₀ pat₀ (SiteFault m net pin) (λ x. x ≡ f) (SiteFault (m + 1) net pin) left best pat left' best' pat' P Q
+        (λ x a b. let (e, el, es) = a in numbers_apart e m net pin apart el (sym es ∙ b ∙ s))
+        (λ x a. let (e, el, es) = a in elim (ℕ_discrete e m) [
+          | yes h ↦ inr (es ∙ ap (λ e. number_of e net pin) h ∙ sym s)
+          | no h ↦ inl (e, omega arith, es)
+        ])
+        (λ x a. ⊎_elim (λ b. let (e, el, es) = b in (e, omega arith, es)) (λ b. (m, omega arith, b ∙ s)) a)
+
+  -- the four are all of the net and the pin
+  pub site_all : (net pin : ℕ) (left₀ best₀ pat₀ left best pat : List ℕ) → Went (SiteFault 4 net pin) (FaultStep i c o q g kinds counts firsts nets order reach src outs goods) left₀ best₀ pat₀ left best pat
+      → Went (λ f. (f / 2 ≡ net) ⊎ (f / 2 ≡ pin)) (FaultStep i c o q g kinds counts firsts nets order reach src outs goods) left₀ best₀ pat₀ left best pat
+  site_all net pin left₀ best₀ pat₀ left best pat P =
+      went_same (FaultStep i c o q g kinds counts firsts nets order reach src outs goods) (SiteFault 4 net pin) (λ f. (f / 2 ≡ net) ⊎ (f / 2 ≡ pin)) left₀ best₀ pat₀ left best pat to from P
+    where
+      to : (f : ℕ) → SiteFault 4 net pin f → (f / 2 ≡ net) ⊎ (f / 2 ≡ pin)
+      to f (e, l, s) = rw s (site_of e net pin l)
+
+      from : (f : ℕ) → (f / 2 ≡ net) ⊎ (f / 2 ≡ pin) → SiteFault 4 net pin f
+      from f (inl a) = (f % 2, omega arith, omega (arith, number_low (f % 2) net pin (omega arith)))
+      from f (inr a) = (f % 2 + 2, omega arith, omega (arith, number_high (f % 2 + 2) net pin (omega arith)))
+
+  -- ---- the faults of pad buffers
 
   -- the pins of two cells are apart
   first_up : (j k : ℕ) → j < k → k < c → get_or firsts j 0 < get_or firsts k 0
   first_up j k l h =
       omega (arith, T.first_pins j (omega arith), T.first_pins k (omega arith), T.limits.sound.pinned j (omega arith), sum_up (λ j. get_or counts j 0) (suc j) k l)
 
-  pub number_of_lem : (e : ℕ) → ((e % 4 < 2) × (pad_number i c firsts e ≡ 2 * (i + e / 4) + e % 4)) ⊎ ((2 ≤ e % 4) × (pad_number i c firsts e ≡ 2 * (i + c + get_or firsts (e / 4) 0) + (e % 4 - 2)))
-  number_of_lem e = elim (dec_lt (e % 4) 2) [
-    | yes l ↦ inl (l, number_low (e % 4) _ _ l)
-    | no g ↦ inr (omega arith, number_high (e % 4) _ _ (omega arith))
-  ]
+  cells_apart : (j k f : ℕ) → j < k → k < c → CellFault i c firsts j f → ¬ CellFault i c firsts k f
+  cells_apart j k f l h (inl a) (inl b) = omega arith
+  cells_apart j k f l h (inl a) (inr b) = omega arith
+  cells_apart j k f l h (inr a) (inl b) = omega arith
+  cells_apart j k f l h (inr a) (inr b) = omega (arith, first_up j k l h)
 
-  numbers_apart : (d e : ℕ) → d < e → e < 4 * c → pad_number i c firsts d ≢ pad_number i c firsts e
-  numbers_apart d e l h q =
-      ⊎_elim
-      (λ a. ⊎_elim (λ b. omega (arith, a, b)) (λ b. omega (arith, a, b)) (number_of_lem e))
-      (λ a. ⊎_elim (λ b. omega (arith, a, b)) (λ b. elim (dec_lt (d / 4) (e / 4)) [
-        | yes y ↦ omega (arith, a, b, first_up (d / 4) (e / 4) y (omega arith))
-        | no y ↦ let same : d / 4 ≡ e / 4 = omega arith in omega (arith, a, b, ap (λ x. get_or firsts x 0) same)
-      ]) (number_of_lem e))
-      (number_of_lem d)
+  module _ (sources left₀ best₀ pat₀ left best pat : List ℕ) (m : ℕ) (P : Went (PadsBelow m i c firsts sources) (FaultStep i c o q g kinds counts firsts nets order reach src outs goods) left₀ best₀ pat₀ left best pat) where
+    pub pads_more : (left' best' pat' : List ℕ) → m < c → get_or sources (i + m) 0 < i → Went (CellFault i c firsts m) (FaultStep i c o q g kinds counts firsts nets order reach src outs goods) left best pat left' best' pat'
+        → Went (PadsBelow (m + 1) i c firsts sources) (FaultStep i c o q g kinds counts firsts nets order reach src outs goods) left₀ best₀ pat₀ left' best' pat'
+    pads_more left' best' pat' l y Q =
+        went_both (FaultStep i c o q g kinds counts firsts nets order reach src outs goods) left₀ best₀ pat₀ (PadsBelow m i c firsts sources) (CellFault i c firsts m) (PadsBelow (m + 1) i c firsts sources) left best pat left' best' pat' P Q
+        (λ f a. let (j, jl, jy, js) = a in cells_apart j m f jl l js)
+        (λ f a. let (j, jl, jy, js) = a in elim (ℕ_discrete j m) [
+          | yes h ↦ inr (subst (λ j. CellFault i c firsts j f) h js)
+          | no h ↦ inl (j, omega arith, jy, js)
+        ])
+        (λ f a. ⊎_elim (λ b. let (j, jl, jy, js) = b in (j, omega arith, jy, js)) (λ b. (m, omega arith, y, b)) a)
 
-  module _ (sources : List ℕ) where
-    module _ (left₀ best₀ pat₀ left best pat : List ℕ) (m : ℕ) (P : Went (PadsBelow m i c firsts sources) (FaultStep i c o q g kinds counts firsts nets order reach src outs goods) left₀ best₀ pat₀ left best pat) where
-      pub pads_more : (left' best' pat' : List ℕ) (f : ℕ) → m < 4 * c → get_or sources (i + m / 4) 0 < i → f ≡ pad_number i c firsts m
-          → Went (λ x. x ≡ f) (FaultStep i c o q g kinds counts firsts nets order reach src outs goods) left best pat left' best' pat'
-          → Went (PadsBelow (m + 1) i c firsts sources) (FaultStep i c o q g kinds counts firsts nets order reach src outs goods) left₀ best₀ pat₀ left' best' pat'
-      pads_more left' best' pat' f l y s Q =
-          went_both (FaultStep i c o q g kinds counts firsts nets order reach src outs goods) left₀ best₀ pat₀ (PadsBelow m i c firsts sources) (λ x. x ≡ f) (PadsBelow (m + 1) i c firsts sources) left best pat left' best' pat' P Q
-          (λ x a b. let (e, el, ey, es) = a in numbers_apart e m el l (sym es ∙ b ∙ s))
-          (λ x a. let (e, el, ey, es) = a in elim (ℕ_discrete e m) [
-            | yes h ↦ inr (es ∙ ap (pad_number i c firsts) h ∙ sym s)
-            | no h ↦ inl (e, omega arith, ey, es)
-          ])
-          (λ x a. ⊎_elim (λ b. let (e, el, ey, es) = b in (e, omega arith, ey, es)) (λ b. (m, omega arith, y, b ∙ s)) a)
-
-      -- the faults of a cell that is no pad buffer are passed over
-      pub pads_skip : i ≤ get_or sources (i + m / 4) 0 → Went (PadsBelow (4 * (m / 4) + 4) i c firsts sources) (FaultStep i c o q g kinds counts firsts nets order reach src outs goods) left₀ best₀ pat₀ left best pat
-      pads_skip y =
-          went_same (FaultStep i c o q g kinds counts firsts nets order reach src outs goods) (PadsBelow m i c firsts sources) (PadsBelow (4 * (m / 4) + 4) i c firsts sources) left₀ best₀ pat₀ left best pat
-          (λ x a. let (e, el, ey, es) = a in (e, omega arith, ey, es))
-          (λ x a. let (e, el, ey, es) = a in elim (dec_lt e m) [
-            | yes h ↦ (e, h, ey, es)
-            | no h ↦
-                let d : e / 4 ≡ m / 4 = omega arith in
-                let z : get_or sources (i + m / 4) 0 < i = rw d at ey in
-                absurd (omega arith)
-          ])
-          P
-
-      pub pads_all : m ≡ 4 * c → Went (PadFault i c firsts sources) (FaultStep i c o q g kinds counts firsts nets order reach src outs goods) left₀ best₀ pat₀ left best pat
-      pads_all h = went_same (FaultStep i c o q g kinds counts firsts nets order reach src outs goods) (PadsBelow m i c firsts sources) (PadFault i c firsts sources) left₀ best₀ pat₀ left best pat to from P
-        where
-          to : (f : ℕ) → PadsBelow m i c firsts sources f → PadFault i c firsts sources f
-          to f (e, el, ey, es) = (e / 4, omega arith, ey, ⊎_elim (λ a. inl (omega (arith, a, es))) (λ a. inr (omega (arith, a, es))) (number_of_lem e))
-
-          from : (f : ℕ) → PadFault i c firsts sources f → PadsBelow m i c firsts sources f
-          from f (j, jl, jy, inl a) =
-              let d : (4 * j + f % 2) / 4 ≡ j = omega arith in
-              (4 * j + f % 2, omega arith, rw d jy, omega (arith, a, number_low ((4 * j + f % 2) % 4) (i + (4 * j + f % 2) / 4) (i + c + get_or firsts ((4 * j + f % 2) / 4) 0) (omega arith)))
-          from f (j, jl, jy, inr a) =
-              let d : (4 * j + f % 2 + 2) / 4 ≡ j = omega arith in (
-                4 * j + f % 2 + 2,
-                omega arith,
-                rw d jy,
-                omega (arith, a, ap (λ x. get_or firsts x 0) d, number_high ((4 * j + f % 2 + 2) % 4) (i + (4 * j + f % 2 + 2) / 4) (i + c + get_or firsts ((4 * j + f % 2 + 2) / 4) 0) (omega arith)),
-              )
+    -- a cell that is no pad buffer is passed over
+    pub pads_skip : i ≤ get_or sources (i + m) 0 → Went (PadsBelow (m + 1) i c firsts sources) (FaultStep i c o q g kinds counts firsts nets order reach src outs goods) left₀ best₀ pat₀ left best pat
+    pads_skip y =
+        went_same (FaultStep i c o q g kinds counts firsts nets order reach src outs goods) (PadsBelow m i c firsts sources) (PadsBelow (m + 1) i c firsts sources) left₀ best₀ pat₀ left best pat
+        (λ f a. let (j, jl, jy, js) = a in (j, omega arith, jy, js))
+        (λ f a. let (j, jl, jy, js) = a in elim (ℕ_discrete j m) [
+          | yes h ↦ let z : get_or sources (i + m) 0 < i = rw h at jy in absurd (omega arith)
+          | no h ↦ (j, omega arith, jy, js)
+        ])
+        P

@@ -1,5 +1,5 @@
 -- The slots of the pins under a fault, and the words of its run.
-use Prim.Native.Nat.{ℕ, suc, ◌+◌, ◌-◌, ◌*◌, ◌/◌, ◌≤◌, ◌<◌}
+use Prim.Native.Nat.{ℕ, suc, ◌+◌, ◌-◌, ◌*◌, ◌≤◌, ◌<◌}
 use mathlib.Core.Path.{◌≡◌, sym, ap, ◌∙◌, subst}
 use mathlib.Core.Logic.{◌⊎◌, inl, inr, ⊎_elim}
 use mathlib.Core.Bool.{cond}
@@ -9,28 +9,19 @@ use native.Mathlib.Decide.{dec_lt}
 use borrow.Author.Tests.{lt-ltb, le-ltb}
 use lib.ListN.{length, get_or}
 use lib.Seq.{ext_get_or}
-use Rattle.chip.specs.Netlist.{first_pin, all_pins}
+use Rattle.chip.specs.Netlist.{all_pins}
 use Rattle.chip.specs.Inner.Limits.{InLimits}
 use Rattle.chip.specs.Inner.Tables.{tabled, FirstPins}
-use Rattle.chip.specs.Faults.{stuck}
-use Rattle.chip.specs.declared.Fault.{Fault}
 use Rattle.chip.proofs.Basics.{sum_up}
 use Rattle.order.specs.Order.{Ordered}
-use Rattle.faults.specs.Decided.{Decided}
 use Rattle.rows.specs.Rows.{Filled}
 use Rattle.rows.proofs.Fill.{row_at}
 use Rattle.slots.specs.Slots.{fault_slot, FaultSlots}
 use Rattle.events.specs.Events.{Chip, Worked}
 use Rattle.homes.specs.Homes.{Looked}
 use Rattle.bridge.specs.Chunk.{Chunk}
-use Rattle.faults.specs.Numbers.{fault_number}
 use Rattle.known.specs.Setting.{lane_of_run}
 use Rattle.buffers.specs.Buffers.{Tables, Faulty, FaultRan}
-
-pub faulty_is : (i c o n f : ℕ) (h : Fault) (kinds counts nets src decided faulty : List ℕ) → h ≡ fault_number (i + c) f → Decided (tabled i c o kinds counts nets) (stuck h) decided
-    → FaultSlots n decided src faulty → Faulty i c o n f kinds counts nets src faulty
-faulty_is i c o n f h kinds counts nets src decided faulty e D S =
-    record { decided = decided; decides = subst (λ x. Decided (tabled i c o kinds counts nets) (stuck x) decided) e D; slots = S }
 
 -- ---- the slots
 
@@ -123,19 +114,11 @@ ran_is c o n f q u kinds counts firsts faulty order reach outs goods entry vals 
 -- ---- what a prepared chip has
 
 module _ {i c o n q g : ℕ} {kinds counts firsts nets order branches reach src outs goods : List ℕ} (T : Tables i c o n q g kinds counts firsts nets order branches reach src outs goods) where
-  pub number_low : (f : ℕ) → f / 2 < i + c + n → f < 10368
-  number_low f l = omega (arith, T.limits.few_inputs, T.limits.few_cells, T.limits.few_pins, T.pins)
-
   pub pin_low : (j : ℕ) → j < c → get_or firsts j 0 < n
   pin_low j l = omega (arith, T.pins, T.first_pins j (omega arith), T.limits.sound.pinned j l, sum_up (λ j. get_or counts j 0) (suc j) c l)
 
   pub outs_fit : (o ≤ 64) × (o ≤ n) × (n ≤ 4096)
   outs_fit = (T.limits.few_outputs, omega (arith, T.pins), omega (arith, T.pins, T.limits.few_pins))
-
-  pub out_low : {f : ℕ} {faulty : List ℕ} → Faulty i c o n f kinds counts nets src faulty → (z : ℕ) → z < o → 16 * get_or faulty (n - o + z) 0 + 16 ≤ 16672
-  out_low {faulty = faulty} D z l =
-      let e : n - o + z ≡ first_pin (tabled i c o kinds counts nets) c + z = omega (arith, T.pins) in
-      slot_low n D.decided src faulty D.slots (n - o + z) (omega (arith, T.pins)) (omega (arith, ap (λ p. get_or src p 0) e, T.outs_are z l, T.ready.outs_low z (omega (arith, T.limits.few_outputs))))
 
   pub chip_there : {f : ℕ} {faulty : List ℕ} → Faulty i c o n f kinds counts nets src faulty → (heads readers : List ℕ) × Chip c kinds counts firsts faulty order reach heads readers
   chip_there {faulty = faulty} D =

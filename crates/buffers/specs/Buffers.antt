@@ -47,6 +47,10 @@ pub record FaultStep (i c o q g : ℕ) (kinds counts firsts nets order reach src
 
 -- ---- the faults of pad buffers
 
+-- fault f is one of the net or of the pin of cell j
+abbrev pub CellFault : ℕ → ℕ → List ℕ → ℕ → ℕ → Type 0
+CellFault i c firsts j f = (f / 2 ≡ i + j) ⊎ (f / 2 ≡ i + c + get_or firsts j 0)
+
 -- fault f is one of the net or of the pin of a pad buffer
 abbrev pub PadFault : ℕ → ℕ → List ℕ → List ℕ → ℕ → Type 0
-PadFault i c firsts sources f = (j : ℕ) × (j < c) × (get_or sources (i + j) 0 < i) × ((f / 2 ≡ i + j) ⊎ (f / 2 ≡ i + c + get_or firsts j 0))
+PadFault i c firsts sources f = (j : ℕ) × (j < c) × (get_or sources (i + j) 0 < i) × CellFault i c firsts j f

@@ -5,15 +5,14 @@ ghost use Rattle.chip.specs.Replies.{CheckOn, CheckReply};
 ghost use Rattle.opening.specs.Open.{netlist_of, IsOpen};
 ghost use Rattle.running.specs.Verdict.{Verdict};
 
-use chip::{Checked, Fault};
-use opening::{Chip, Opening};
-use running::Look;
+use chip::{Fault, Reason, Refusal, Sight};
+use opening::Chip;
 
 // Runs a play of n clocks on an open chip, good and faulty.
-fn run_on(opened: Chip, fault: Fault, play: &[u8], n: usize) -> Look
-    requires fact { IsOpen opened }
-    requires fault_in { FaultIn (netlist_of opened) fault × IsPlay opened.sizes.inputs play.now n }
-    ensures { Verdict (netlist_of opened) (stuck fault) play.now opened.shape.depth n result }
+fn run_on(opened: &Chip, fault: Fault, play: &[u8], n: usize) -> Option<Sight>
+    requires fact { IsOpen opened.now }
+    requires fault_in { FaultIn (netlist_of opened.now) fault × IsPlay opened.now.sizes.inputs play.now n }
+    ensures { Verdict (netlist_of opened.now) (stuck fault) play.now opened.now.shape.depth n result }
 {
     let z = opened.sizes;
     let s = opened.shape;
@@ -34,38 +33,29 @@ fn run_on(opened: Chip, fault: Fault, play: &[u8], n: usize) -> Look
     )
 }
 
-// Checks a play against a fault of an open chip.
+// Checks a play against a fault of an open chip: where the fault is seen first, if it is.
 // Refuses 12 (no such fault), 14 (the play's length), 18 (its bytes).
-pub fn check_on(opened: Chip, fault: Fault, play: &[u8]) -> Checked
-    requires { IsOpen opened }
-    ensures { CheckOn (netlist_of opened) fault play.now result }
+pub fn check_on(opened: &Chip, fault: Fault, play: &[u8]) -> Result<Option<Sight>, Refusal>
+    requires { IsOpen opened.now }
+    ensures { CheckOn (netlist_of opened.now) fault play.now result }
 {
     let z = opened.sizes;
     if !faults::known(z.inputs, z.cells, z.pins, fault) {
-        return Checked::Refused(12, 0);
+        return Err(Reason::NoFault.at(0));
     }
-    let n = plays::clock_count(z.inputs, play);
-    if 1024 < n {
-        return Checked::Refused(14, play.len());
+    let Some(n) = plays::clock_count(z.inputs, play) else {
+        return Err(Reason::BadLength.at(play.len()));
+    };
+    if let Some(k) = plays::first_above_one(play) {
+        return Err(Reason::BadByte.at(k));
     }
-    let k = plays::first_above_one(play);
-    if k < play.len() {
-        return Checked::Refused(18, k);
-    }
-    match run_on(opened, fault, play, n) {
-        Look::Shown(t, z) => Checked::Shown(t, z),
-        Look::NotSeen => Checked::NotSeen,
-    }
+    Ok(run_on(opened, fault, play, n))
 }
 
 // Checks a play against a fault of the netlist in a file. Refuses 1 to 10, and then as on an open chip.
-pub fn check_play(file: &[u8], fault: Fault, play: &[u8]) -> Checked
+pub fn check_play(file: &[u8], fault: Fault, play: &[u8]) -> Result<Option<Sight>, Refusal>
     ensures { CheckReply file.now fault play.now result }
 {
-    let opened = opening::open(file);
-    let opening = opened.opening;
-    match opening {
-        Opening::Refused(k, p) => Checked::Refused(k, p),
-        Opening::Open => check_on(opened, fault, play),
-    }
+    let opened = opening::open(file)?;
+    check_on(&opened, fault, play)
 }

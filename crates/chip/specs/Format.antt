@@ -3,26 +3,27 @@
 use Rattle.std.specs.Prelude.{ℕ, zero, suc, ◌+◌, ◌*◌, List, [], ◌∷◌, ◌++◌, Bool, false, ◌&&◌, ◌||◌, not, length, get_or, ltb, leb, eqb}
 use Rattle.chip.specs.Netlist.{Netlist, takes}
 use Rattle.chip.specs.Got.{Got, got, ◌>>=◌, check}
+use Rattle.chip.specs.declared.Reason.{Reason}
 
 -- The fields.
 
 -- one byte: 1, at the length, if it is cut
 unfoldable pub byte_at : List ℕ → ℕ → Got ℕ
 byte_at file at = do
-  _ ← check (ltb at (length file)) 1 (length file)
+  _ ← check (ltb at (length file)) Reason.CutShort (length file)
   got (get_or file at 0)
 
 -- a number of two bytes, low byte first: 1, at the length, if it is cut
 unfoldable pub word_at : List ℕ → ℕ → Got ℕ
 word_at file at = do
-  _ ← check (leb (at + 2) (length file)) 1 (length file)
+  _ ← check (leb (at + 2) (length file)) Reason.CutShort (length file)
   got (get_or file at 0 + 256 * get_or file (at + 1) 0)
 
 -- the count of a section: 2 if it is beyond its limits
 unfoldable pub count_at_place : List ℕ → ℕ → ℕ → ℕ → Got ℕ
 count_at_place file lo hi at = do
   n ← word_at file at
-  _ ← check (leb lo n && leb n hi) 2 at
+  _ ← check (leb lo n && leb n hi) Reason.BadCount at
   got n
 
 -- whether a pad is among the pads used before
@@ -34,29 +35,29 @@ is_in pad (q ∷ used) = eqb q pad || is_in pad used
 unfoldable pub pad_at : List ℕ → List ℕ → ℕ → Got ℕ
 pad_at file used at = do
   pad ← byte_at file at
-  _ ← check (not (eqb pad 0 || is_in pad used)) 3 at
+  _ ← check (not (eqb pad 0 || is_in pad used)) Reason.BadPad at
   got pad
 
 -- the kind of a cell: 4 if it is above 9
 unfoldable pub kind_at : List ℕ → ℕ → Got ℕ
 kind_at file at = do
   kind ← byte_at file at
-  _ ← check (leb kind 9) 4 at
+  _ ← check (leb kind 9) Reason.BadKind at
   got kind
 
 -- the pin count of a cell with so many pins before it: 5 if it is wrong for the kind, then 7 if the pins pass 4,096
 unfoldable pub pin_count_at : List ℕ → ℕ → ℕ → ℕ → Got ℕ
 pin_count_at file kind before at = do
   m ← byte_at file at
-  _ ← check (takes kind m) 5 at
-  _ ← check (leb (before + m) 4096) 7 at
+  _ ← check (takes kind m) Reason.BadPinCount at
+  _ ← check (leb (before + m) 4096) Reason.ManyPins at
   got m
 
 -- the net that a pin names: 6 if it is not below the number of nets, I+C
 unfoldable pub net_at : List ℕ → ℕ → ℕ → Got ℕ
 net_at file net_count at = do
   net ← word_at file at
-  _ ← check (ltb net net_count) 6 at
+  _ ← check (ltb net net_count) Reason.BadNet at
   got net
 
 -- The sections: so many entries are left, from a place on; the last arguments grow with each entry.
@@ -123,9 +124,9 @@ pub record Parsed : Type 0 where
 unfoldable pub ending : List ℕ → ℕ → ℕ → List ℕ → Cells → Got Parsed
 ending file i n pads c = do
   o ← count_at_place file 1 64 c.at
-  _ ← check (leb (length c.nets + o) 4096) 7 c.at
+  _ ← check (leb (length c.nets + o) 4096) Reason.ManyPins c.at
   x ← outputs file (i + n) o (c.at + 2) pads c.nets
-  _ ← check (leb (length file) (c.at + 2 + 3 * o)) 8 (c.at + 2 + 3 * o)
+  _ ← check (leb (length file) (c.at + 2 + 3 * o)) Reason.Trailing (c.at + 2 + 3 * o)
   got (record { ins = i; outs = o; pads = x.pads; kinds = c.kinds; counts = c.counts; nets = x.nets })
 
 unfoldable pub read_of : List ℕ → Got Parsed

@@ -6,6 +6,7 @@ use Rattle.chip.specs.Format.{Parsed, read_of, chip_of}
 use Rattle.chip.specs.Class.{Reach, Feeds, Blocks, TwoDepths, Prepared}
 use Rattle.chip.specs.Search.{Tables, width}
 use Rattle.chip.specs.declared.Site.{Site}
+use Rattle.chip.specs.declared.Reason.{Reason}
 
 -- The guards. A condition says of which place it holds.
 
@@ -47,12 +48,12 @@ When10 N = Least (Deep N)
 
 -- what a file opens as: a refusal of reading, 9, 10, or its netlist
 pub data Opens (file : List ℕ) : Got Netlist → Type 0 where
-  unread : {n p : ℕ} → read_of file ≡ refused n p → Opens file (refused n p)
-  read : {x : Parsed} {a : Got Netlist} → read_of file ≡ got x → Step (When9 (chip_of x)) (refused 9) (Step (When10 (chip_of x)) (refused 10) (Is (got (chip_of x)))) a → Opens file a
+  unread : {r : Reason} {p : ℕ} → read_of file ≡ refused r p → Opens file (refused r p)
+  read : {x : Parsed} {a : Got Netlist} → read_of file ≡ got x → Step (When9 (chip_of x)) (refused Reason.Looped) (Step (When10 (chip_of x)) (refused Reason.TooDeep) (Is (got (chip_of x)))) a → Opens file a
 
 -- a call on a file: what the file is refused by, or the call on the netlist that it opens as
-pub data Start {A : Type 0} (refuse : ℕ → ℕ → A) (Call : Netlist → A → Type 0) (file : List ℕ) : A → Type 0 where
-  unopened : {n p : ℕ} → Opens file (refused n p) → Start refuse Call file (refuse n p)
+pub data Start {A : Type 0} (refuse : Reason → ℕ → A) (Call : Netlist → A → Type 0) (file : List ℕ) : A → Type 0 where
+  unopened : {r : Reason} {p : ℕ} → Opens file (refused r p) → Start refuse Call file (refuse r p)
   opened : {N : Netlist} {a : A} → Opens file (got N) → Call N a → Start refuse Call file a
 
 -- a call on a netlist, with the depth, the blocks and the class that it has
@@ -108,5 +109,5 @@ pub record Wrote (bytes entry exit : List ℕ) : Type 0 where
   pub now_is : exit ≡ bytes ++ drop (length bytes) entry
 
 -- "Every refusal returns number and place and writes nothing"
-abbrev pub leaving : {A : Type 0} → List ℕ → (ℕ → ℕ → A) → ℕ → ℕ → A × List ℕ
-leaving entry refuse n p = (refuse n p, entry)
+abbrev pub leaving : {A : Type 0} → List ℕ → (Reason → ℕ → A) → Reason → ℕ → A × List ℕ
+leaving entry refuse r p = (refuse r p, entry)

@@ -1,4 +1,5 @@
 -- The listing and P1 to P10: each row is a reply that the call's contract allows, and so the reply.
+use Rattle.std.specs.Prelude.{None}
 use Prim.Native.Nat.{ℕ, zero, suc, ◌+◌, ◌*◌, ◌≤◌, ◌<◌}
 use mathlib.Core.Path.{◌≡◌, refl}
 use mathlib.Core.List.{List, [], ◌∷◌}
@@ -16,7 +17,6 @@ use Rattle.chip.specs.Replies.{CheckReply, SearchReply}
 use Rattle.chip.specs.declared.Site.{Site}
 use Rattle.chip.specs.declared.Site.TheVariants.{Net, Pin}
 use Rattle.chip.specs.declared.Fault.{Fault}
-use Rattle.chip.specs.declared.Checked.TheVariants.{NotSeen}
 use Rattle.chip.specs.declared.Searched.{Searched}
 use Rattle.chip.proofs.Basics.{sum_up}
 use Rattle.chip.proofs.Loops.{fed_cell}
@@ -45,7 +45,7 @@ hung = (
 )
 
 -- P4, for both bits
-listed_short : (fault : Fault) (x : Parsed) → read_of listing ≡ got x → FaultIn (chip_of x) fault → (b : ℕ) → b ≤ 1 → CheckReply listing fault (b ∷ []) NotSeen
+listed_short : (fault : Fault) (x : Parsed) → read_of listing ≡ got x → FaultIn (chip_of x) fault → (b : ℕ) → b ≤ 1 → CheckReply listing fault (b ∷ []) (got None)
 unfolding working
 listed_short fault x e h zero l = let g = in_chip listing (tt, tt) fault x e h in (check_reply listing (tt, tt) fault (0 ∷ []) 1 (g.site, g.value, refl, omega arith)).1
 listed_short fault x e h (suc zero) l = let g = in_chip listing (tt, tt) fault x e h in (check_reply listing (tt, tt) fault (1 ∷ []) 1 (g.site, g.value, refl, omega arith)).1

@@ -1,4 +1,5 @@
 -- A file that is small enough to work out: its netlist is prepared by the searches that prove that depth, blocks and class exist, and the calls' replies follow.
+use Rattle.std.specs.Prelude.{Option, Ok, Err}
 use Prim.Native.Nat.{ℕ, suc, ◌+◌, ◌*◌, ◌≤◌, ◌<◌}
 use mathlib.Core.Path.{◌≡◌, refl, ap, ◌∙◌, subst}
 use mathlib.Core.Logic.{◌⊎◌, inl, inr}
@@ -10,7 +11,7 @@ use native.Mathlib.Omega.{arith}
 use native.Mathlib.Decide.{dec_le, dec_lt, ℕ_discrete}
 use Rattle.chip.specs.Netlist.{Netlist, all_pins, sum_below, takes, gate, is_flop}
 use Rattle.chip.specs.Inner.Limits.{Sound, InLimits}
-use Rattle.chip.specs.Got.{Got, refused, got}
+use Rattle.chip.specs.Got.{Got, got}
 use Rattle.chip.specs.Format.{Parsed, read_of, count_at_place, word_at, byte_at, inputs, pad_at, is_in, cells, cell, kind_at, pin_count_at, pins, net_at, ending, outputs, chip_of}
 use Rattle.chip.specs.File.{file_of, transformed_file}
 use Rattle.chip.specs.Class.{Within, Prepared, Blocks, blocks}
@@ -22,11 +23,8 @@ use Rattle.chip.specs.Search.{pattern}
 use Rattle.chip.specs.Refusals.{Step, refuses, goes_on, Opens, read, Start, opened, Knowing, prepared, When11, Clocks, AboveOne, When18, When19, Short}
 use Rattle.chip.specs.Replies.{ClassReply, TransformReply, PlaySet, SetReply, PatternRead, ReadReply, CheckReply, Checks, shows, shows_not, SearchReply, Searches, finds, finds_none}
 use Rattle.chip.specs.declared.Fault.{Fault}
-use Rattle.chip.specs.declared.Classed.TheVariants.{Class}
-use Rattle.chip.specs.declared.Transformed.{Transformed}
-use Rattle.chip.specs.declared.Setting.{Setting}
-use Rattle.chip.specs.declared.ReadBack.{ReadBack}
-use Rattle.chip.specs.declared.Checked.{Checked}
+use Rattle.chip.specs.declared.Reason.{Reason}
+use Rattle.chip.specs.declared.Sight.{Sight}
 use Rattle.chip.specs.declared.Searched.{Searched}
 use Rattle.chip.proofs.Basics.{Ranked}
 use Rattle.chip.proofs.Bools.{bit_is}
@@ -76,12 +74,12 @@ abbrev pub Easy : Netlist → Type 0
 Easy N = T (rank_test N (λ n. n)) × T (leb (sum_below (λ n. n) (N.inputs + N.cells)) 255)
 
 abbrev pub Small : Got Parsed → Type 0
-Small (refused n p) = ⊥
-Small (got x) = Easy (chip_of x)
+Small (Err e) = ⊥
+Small (Ok x) = Easy (chip_of x)
 
 unfoldable pub netlist : (g : Got Parsed) → Small g → (x : Parsed) × (g ≡ got x) × Easy (chip_of x)
-netlist (refused n p) s = absurd s
-netlist (got x) s = (x, refl, s)
+netlist (Err e) s = absurd s
+netlist (Ok x) s = (x, refl, s)
 
 module _ (file : List ℕ) (s : Small (read_of file)) where
   abbrev pub is_read : (x : Parsed) × (read_of file ≡ got x) × Easy (chip_of x)
@@ -134,7 +132,7 @@ module _ (file : List ℕ) (s : Small (read_of file)) where
   in_chip fault x e h = subst (λ y. FaultIn (chip_of y) fault) (one_file e is_read.1) h
 
   -- the reply of a call, once its guards are worked out
-  unfoldable pub call : {A : Type 0} {refuse : ℕ → ℕ → A} {Call : Netlist → ℕ → (ℕ → ℕ) → ℕ → A → Type 0} → (a : A) × Call N depth low class a → (a : A) × Start refuse (λ M. Knowing M (Call M)) file a
+  unfoldable pub call : {A : Type 0} {refuse : Reason → ℕ → A} {Call : Netlist → ℕ → (ℕ → ℕ) → ℕ → A → Type 0} → (a : A) × Call N depth low class a → (a : A) × Start refuse (λ M. Knowing M (Call M)) file a
   call (a, h) = (a, opened opens (prepared known h))
 
   -- 11 at the lowest input with a block of two depths
@@ -147,11 +145,11 @@ module _ (file : List ℕ) (s : Small (read_of file)) where
 
   -- Naming the class, and transforming.
 
-  pub class_reply : ClassReply file (Class class depth B.count)
+  pub class_reply : ClassReply file (got (record { class = class; depth = depth; blocks = B.count }))
   class_reply = opened opens (prepared known refl)
 
   unfoldable pub transform_reply : (entry : List ℕ) → (B.count ≤ 64) × (N.cells + copies N B ≤ 1024) × (all_pins N + copies N B ≤ 4096) → Dec (length entry < length (transformed_file N B))
-      → (a : Transformed × List ℕ) × TransformReply file entry a
+      → (a : Got ℕ × List ℕ) × TransformReply file entry a
   transform_reply entry q short =
       call (
       guard (inr (λ p h. omega arith)) λ _.
@@ -168,7 +166,7 @@ module _ (file : List ℕ) (s : Small (read_of file)) where
     unfoldable pub dec_seen : (t z : ℕ) → t < n → Dec (SeenAt t z)
     dec_seen t z _ = dec_and (dec_le depth t) λ late. dec_and (dec_lt z N.outs) λ zo. dec_shown N S R depth deep (stuck fault) (play_of N.inputs play) z t late zo
 
-    unfoldable pub checked : (a : Checked) × Checks N depth fault play a
+    unfoldable pub checked : (a : Got (Option Sight)) × Checks N depth fault play a
     checked = elim (walked n (λ _. N.outs) SeenAt dec_seen) [
       | inl w ↦
           let (t, z, _, F) = w in (
@@ -185,7 +183,7 @@ module _ (file : List ℕ) (s : Small (read_of file)) where
       | inr w ↦ (_, shows_not c (λ t z l g o shown. w.1.none t z g o (l, (o, shown))))
     ]
 
-  unfoldable pub check_reply : (fault : Fault) (play : List ℕ) (n : ℕ) → SiteIn N fault.site × (fault.stuck ≤ 1) × (length play ≡ n * N.inputs) × (n ≤ 1024) → (a : Checked) × CheckReply file fault play a
+  unfoldable pub check_reply : (fault : Fault) (play : List ℕ) (n : ℕ) → SiteIn N fault.site × (fault.stuck ≤ 1) × (length play ≡ n * N.inputs) × (n ≤ 1024) → (a : Got (Option Sight)) × CheckReply file fault play a
   check_reply fault play n q =
       let c : Clocks N.inputs play n = record { long = q.2; few = q.3 } in
       call (
@@ -249,7 +247,7 @@ module _ (file : List ℕ) (s : Small (read_of file)) where
       | inr w ↦ (_, finds_none w.1 (λ h. untestable_right N S R depth deep B bal fault w.0 w.1 ((showable_is N S R depth deep (stuck fault)).1 h)))
     ]
 
-  unfoldable pub set_reply : (z : ℕ) (pattern entry : List ℕ) → (z < N.outs) × (length pattern ≡ B.count) → Dec (length entry < suc depth * N.inputs) → (a : Setting × List ℕ) × SetReply file z pattern entry a
+  unfoldable pub set_reply : (z : ℕ) (pattern entry : List ℕ) → (z < N.outs) × (length pattern ≡ B.count) → Dec (length entry < suc depth * N.inputs) → (a : Got ℕ × List ℕ) × SetReply file z pattern entry a
   set_reply z pattern entry q short =
       call (
       guard (inr (λ p h. omega arith)) λ _.
@@ -259,7 +257,7 @@ module _ (file : List ℕ) (s : Small (read_of file)) where
       guard (short? entry (suc depth * N.inputs) short) λ room.
       (_, (refl, (play_set even z q.0 (pattern_of pattern) entry (omega (arith, not_at room))).1)))
 
-  unfoldable pub read_reply : (z : ℕ) (play : List ℕ) (n t : ℕ) (entry : List ℕ) → (z < N.outs) × (length play ≡ n * N.inputs) × (n ≤ 1024) → Dec (length entry < B.count) → (a : ReadBack × List ℕ) × ReadReply file z play t entry a
+  unfoldable pub read_reply : (z : ℕ) (play : List ℕ) (n t : ℕ) (entry : List ℕ) → (z < N.outs) × (length play ≡ n * N.inputs) × (n ≤ 1024) → Dec (length entry < B.count) → (a : Got ℕ × List ℕ) × ReadReply file z play t entry a
   read_reply z play n t entry q short =
       call (
       guard (inr (λ p h. omega arith)) λ _.

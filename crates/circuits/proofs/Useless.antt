@@ -1,4 +1,5 @@
 -- No useless version of a call, and none with a slip, meets its contract: a contract allows one reply, and these replies are known.
+use Rattle.std.specs.Prelude.{Option, Ok, Err}
 use Prim.Native.Nat.{ℕ, zero, suc, ◌≤◌, ◌<◌}
 use mathlib.Core.Path.{◌≡◌, refl, sym, ap, ◌∙◌}
 use mathlib.Core.Logic.{◌⊎◌, inl, inr, ◌≢◌}
@@ -12,18 +13,15 @@ use Rattle.chip.specs.Class.{Branch, Blocks, blocks}
 use Rattle.chip.specs.Transformed.{transformed}
 use Rattle.chip.specs.Faults.{Lines, good, stuck_at, stuck, play_of, Shown}
 use Rattle.chip.specs.Clocks.{BlockAt, pattern_of}
+use Rattle.chip.specs.Got.{Got, refused, got}
 use Rattle.chip.specs.Format.{read_of}
 use Rattle.chip.specs.Search.{pattern, patterns}
 use Rattle.chip.specs.Search as Search
 use Rattle.chip.specs.Refusals.{Step, refuses, goes_on, Start, unopened, opened, Knowing, prepared, leaving}
-use Rattle.chip.specs.Replies.{TransformReply, SetReply, ReadReply, CheckReply, SearchReply, Searches, shows, finds, finds_none}
+use Rattle.chip.specs.Replies.{TransformReply, SetReply, ReadReply, CheckReply, SearchReply, search_refused, Searches, shows, finds, finds_none}
 use Rattle.chip.specs.declared.Site.TheVariants.{Net}
 use Rattle.chip.specs.declared.Fault.{Fault}
-use Rattle.chip.specs.declared.Classed.TheVariants as Classed
-use Rattle.chip.specs.declared.Transformed.TheVariants as Transformed
-use Rattle.chip.specs.declared.Setting.TheVariants as Setting
-use Rattle.chip.specs.declared.ReadBack.TheVariants as ReadBack
-use Rattle.chip.specs.declared.Checked.TheVariants as Checked
+use Rattle.chip.specs.declared.Reason.{Reason}
 use Rattle.chip.specs.declared.Searched.{Searched}
 use Rattle.chip.proofs.Decide.{reaches}
 use Rattle.chip.proofs.Basics.{Ranked}
@@ -35,6 +33,7 @@ use Rattle.chip.proofs.Simulation.{dec_shown}
 use Rattle.chip.proofs.Theorem.{balanced_of}
 use Rattle.chip.proofs.Tables.{yes_of, no_of, rel_table, tables}
 use Rattle.chip.proofs.Search.{bounded}
+use Rattle.replies.proofs.Guards.{same_refusal}
 use Rattle.replies.proofs.Unique.{one_class_reply, one_transform_reply, one_set_reply, one_read_reply, one_check_reply, one_search_reply}
 use Rattle.circuits.specs.Circuits.{listing, straight, never_one, two_outputs, chained, hanging}
 use Rattle.circuits.specs.Useless.{Call, None, IsRefusal, NoneRefuses, NoneConstant, NoneIdle, NoneWithout, are_bytes, Bytes, classing, transforming, ToSet, setting, ToRead, reading, ToTest, checking, searching, OfFile, OfChip, Pairs, HasPairs, OnePlay, SetsForward, ReadsForward, ReadsClock0, SeenFromZero, OneBlock, ShutOut}
@@ -49,7 +48,7 @@ Reply C = (g : C.Given) × ((a : C.Answer × List ℕ) × C.Allows g a)
 record Told (C : Call) : Type 0 where
   one : (g : C.Given) (a b : C.Answer × List ℕ) → C.Allows g a → C.Allows g b → a.0 ≡ b.0
   mark : C.Answer → ℕ
-  refusals : (n p : ℕ) → mark (C.refusal n p) ≡ 0
+  refusals : (r : Reason) (p : ℕ) → mark (C.refusal r p) ≡ 0
   left : Reply C
   right : Reply C
   differ : (0 < mark left.1.0.0) × (0 < mark right.1.0.0) × (mark left.1.0.0 ≢ mark right.1.0.0)
@@ -62,7 +61,7 @@ module _ (C : Call) (T : Told C) where
   -- a version that refuses, or else answers a, answers a where something else than a refusal is allowed
   marked : (r : Reply C) → 0 < T.mark r.1.0.0 → (version : C.Given → C.Answer × List ℕ) → ((g : C.Given) → C.Allows g (version g))
       → (a : C.Answer) → IsRefusal C (version r.0).0 ⊎ ((version r.0).0 ≡ a) → T.mark a ≡ T.mark r.1.0.0
-  marked r l version all a (inl (n, p, f)) = absurd (omega (arith, ap T.mark (same r version all), ap T.mark f, T.refusals n p))
+  marked r l version all a (inl (s, p, f)) = absurd (omega (arith, ap T.mark (same r version all), ap T.mark f, T.refusals s p))
   marked r l version all a (inr f) = ap T.mark (sym f ∙ same r version all)
 
   constant_out : NoneConstant C
@@ -72,8 +71,8 @@ module _ (C : Call) (T : Told C) where
   refuses_out : NoneRefuses C
   refuses_out version kind = constant_out version (T.left.1.0.0, λ g. inl (kind g))
 
-  without_out : (k p : ℕ) (r : Reply C) → r.1.0.0 ≡ C.refusal k p → NoneWithout C k
-  without_out k p r e version kind all = kind r.0 p (same r version all ∙ e)
+  without_out : (s : Reason) (p : ℕ) (r : Reply C) → r.1.0.0 ≡ C.refusal s p → NoneWithout C s
+  without_out s p r e version kind all = kind r.0 p (same r version all ∙ e)
 
 -- the buffer is another than the lent one in its first byte
 idle_out : (C : Call) → ((g : C.Given) (a b : C.Answer × List ℕ) → C.Allows g a → C.Allows g b → a ≡ b)
@@ -89,20 +88,25 @@ classes : Told classing
 classes =
     record {
       one = λ g a b. one_class_reply g.list;
-      mark = λ a. elim a [ Classed.Class k d b ↦ k | Classed.Refused n p ↦ 0 ];
-      refusals = λ n p. refl;
+      mark = λ a. elim a [ Ok c ↦ c.class | Err e ↦ 0 ];
+      refusals = λ r p. refl;
       left = (lent listing refl, ((_, []), small_circuits.p1));
       right = (lent straight refl, ((_, []), small_circuits.p5));
       differ = omega arith;
     }
+
+-- how many bytes an answer says that it wrote; a refusal wrote none
+abbrev number : Got ℕ → ℕ
+number (Ok n) = n
+number (Err e) = 0
 
 transforms : Told transforming
 unfolding working
 transforms =
     record {
       one = λ g a b h k. ap (λ c. c.0) (one_transform_reply g.file.list g.out.list h k);
-      mark = λ a. elim a [ Transformed.Written n ↦ n | Transformed.Refused n p ↦ 0 ];
-      refusals = λ n p. refl;
+      mark = number;
+      refusals = λ r p. refl;
       left = (record { file = lent listing refl; out = lent (replicate 21 0) refl }, (_, small_circuits.p3 (replicate 21 0) (omega arith)));
       right = (record { file = lent straight refl; out = lent (replicate 10 0) refl }, transform_reply straight (tt, tt) (replicate 10 0) (omega arith) (no (λ l. omega arith)));
       differ = omega arith;
@@ -116,8 +120,8 @@ unfolding working
 sets =
     record {
       one = λ g a b h k. ap (λ c. c.0) (one_set_reply g.file.list g.output g.pattern.list g.play.list h k);
-      mark = λ a. elim a [ Setting.Set n ↦ n | Setting.Refused n p ↦ 0 ];
-      refusals = λ n p. refl;
+      mark = number;
+      refusals = λ r p. refl;
       left = (record { file = lent listing refl; output = 0; pattern = lent (1 ∷ 0 ∷ []) refl; play = lent (0 ∷ 0 ∷ []) refl }, (_, small_circuits.p2 (0 ∷ 0 ∷ []) (omega arith)));
       right = (to_set (1 ∷ []) refl, set_reply straight (tt, tt) 0 (1 ∷ []) (0 ∷ []) (omega arith) (no (λ l. omega arith)));
       differ = omega arith;
@@ -131,8 +135,8 @@ unfolding working
 reads =
     record {
       one = λ g a b h k. ap (λ c. c.0) (one_read_reply g.file.list g.output g.play.list g.clock g.pattern.list h k);
-      mark = λ a. elim a [ ReadBack.Read n ↦ n | ReadBack.Refused n p ↦ 0 ];
-      refusals = λ n p. refl;
+      mark = number;
+      refusals = λ r p. refl;
       left = (
         record { file = lent listing refl; output = 0; play = lent (1 ∷ 0 ∷ []) refl; clock = 1; pattern = lent (0 ∷ 0 ∷ []) refl },
         read_reply listing (tt, tt) 0 (1 ∷ 0 ∷ []) 2 1 (0 ∷ 0 ∷ []) (omega arith) (no (λ l. omega arith)),
@@ -155,8 +159,8 @@ checks =
     let never = check_reply straight (tt, tt) stuck_input (0 ∷ 0 ∷ []) 2 (omega arith) in
     record {
       one = λ g a b. one_check_reply g.file.list g.fault g.play.list;
-      mark = λ a. elim a [ Checked.Shown t z ↦ 1 | Checked.NotSeen ↦ 2 | Checked.Refused n p ↦ 0 ];
-      refusals = λ n p. refl;
+      mark = λ a. elim a [ Ok (Option.Some s) ↦ 1 | Ok Option.None ↦ 2 | Err e ↦ 0 ];
+      refusals = λ r p. refl;
       left = (to_test (0 ∷ 1 ∷ []) refl, ((late.0, []), late.1));
       right = (to_test (0 ∷ 0 ∷ []) refl, ((never.0, []), never.1));
       differ = omega arith;
@@ -167,8 +171,8 @@ unfolding working
 searches =
     record {
       one = λ g a b h k. ap (λ c. c.0) (one_search_reply g.file.list g.fault g.play.list h k);
-      mark = λ a. elim a [ Searched.Found z m k ↦ 1 | Searched.Untestable k ↦ 2 | Searched.Refused n p ↦ 0 ];
-      refusals = λ n p. refl;
+      mark = λ a. elim a [ Searched.Found z m k ↦ 1 | Searched.Untestable k ↦ 2 | Searched.Refused e ↦ 0 ];
+      refusals = λ r p. refl;
       left = (to_test (0 ∷ []) refl, (_, small_circuits.p5_search (0 ∷ []) (omega arith)));
       right = (
         record { file = lent never_one refl; fault = record { site = Net 2; stuck = 0 }; stuck_byte = omega arith; play = lent (0 ∷ []) refl },
@@ -190,53 +194,53 @@ search_all_tries file fault entry exit k (opened {N = N} o (prepared {d = d} {lo
     (N, o, d, low, c, P, (F, F.no_hit.tries))
 
 -- A refusal leaves the lent buffer as it was: each guard's does, and what comes behind the last guard is none.
-module _ {A : Type 0} (refuse : ℕ → ℕ → A) (entry : List ℕ) where
+module _ {A : Type 0} (refuse : Reason → ℕ → A) (entry : List ℕ) where
   abbrev Keeps : A × List ℕ → Type 0
-  Keeps a = (n p : ℕ) → a.0 ≡ refuse n p → a.1 ≡ entry
+  Keeps a = (r : Reason) (p : ℕ) → a.0 ≡ refuse r p → a.1 ≡ entry
 
-  guard_keeps : (When : ℕ → Type 0) (k : ℕ) (Rest : A × List ℕ → Type 0) → ((a : A × List ℕ) → Rest a → Keeps a) → (a : A × List ℕ) → Step When (leaving entry refuse k) Rest a → Keeps a
-  guard_keeps When k Rest rest a (refuses w) n p e = refl
-  guard_keeps When k Rest rest a (goes_on _ r) n p e = rest a r n p e
+  guard_keeps : (When : ℕ → Type 0) (s : Reason) (Rest : A × List ℕ → Type 0) → ((a : A × List ℕ) → Rest a → Keeps a) → (a : A × List ℕ) → Step When (leaving entry refuse s) Rest a → Keeps a
+  guard_keeps When s Rest rest a (refuses w) r p e = refl
+  guard_keeps When s Rest rest a (goes_on _ h) r p e = rest a h r p e
 
   call_keeps : (Call : Netlist → ℕ → (ℕ → ℕ) → ℕ → A × List ℕ → Type 0) → ((N : Netlist) (d : ℕ) (low : ℕ → ℕ) (k : ℕ) (a : A × List ℕ) → Call N d low k a → Keeps a)
       → (file : List ℕ) (a : A × List ℕ) → Start (leaving entry refuse) (λ N. Knowing N (Call N)) file a → Keeps a
-  call_keeps Call keeps file a (unopened o) n p e = refl
-  call_keeps Call keeps file a (opened o (prepared P c)) n p e = keeps _ _ _ _ a c n p e
+  call_keeps Call keeps file a (unopened o) r p e = refl
+  call_keeps Call keeps file a (opened o (prepared P c)) r p e = keeps _ _ _ _ a c r p e
 
-transform_keeps : (file entry exit : List ℕ) (n p : ℕ) → TransformReply file entry (Transformed.Refused n p, exit) → exit ≡ entry
-transform_keeps file entry exit n p r =
-    let g = guard_keeps Transformed.Refused entry in
-    call_keeps Transformed.Refused entry _ (λ N d low k. g _ 17 _ (g _ 2 _ (g _ 7 _ (g _ 15 _ (λ a w n p e. absurd (omega (arith, ap {B = ℕ} (λ a. elim a [ Transformed.Written k ↦ 1 | Transformed.Refused k q ↦ 0 ]) (sym w.0 ∙ e))))))))
-    file (Transformed.Refused n p, exit) r n p refl
+transform_keeps : (file entry exit : List ℕ) (r : Reason) (p : ℕ) → TransformReply file entry (refused r p, exit) → exit ≡ entry
+transform_keeps file entry exit r p h =
+    let g = guard_keeps refused entry in
+    call_keeps refused entry _ (λ N d low k. g _ _ _ (g _ _ _ (g _ _ _ (g _ _ _ (λ a w r p e. let f = w.0 in cc)))))
+    file (refused r p, exit) h r p refl
 
-set_keeps : (file : List ℕ) (output : ℕ) (pattern entry exit : List ℕ) (n p : ℕ) → SetReply file output pattern entry (Setting.Refused n p, exit) → exit ≡ entry
-set_keeps file output pattern entry exit n p r =
-    let g = guard_keeps Setting.Refused entry in
-    call_keeps Setting.Refused entry _ (λ N d low k. g _ 13 _ (g _ 11 _ (g _ 14 _ (g _ 18 _ (g _ 15 _ (λ a w n p e. absurd (omega (arith, ap {B = ℕ} (λ a. elim a [ Setting.Set k ↦ 1 | Setting.Refused k q ↦ 0 ]) (sym w.0 ∙ e)))))))))
-    file (Setting.Refused n p, exit) r n p refl
+set_keeps : (file : List ℕ) (output : ℕ) (pattern entry exit : List ℕ) (r : Reason) (p : ℕ) → SetReply file output pattern entry (refused r p, exit) → exit ≡ entry
+set_keeps file output pattern entry exit r p h =
+    let g = guard_keeps refused entry in
+    call_keeps refused entry _ (λ N d low k. g _ _ _ (g _ _ _ (g _ _ _ (g _ _ _ (g _ _ _ (λ a w r p e. let f = w.0 in cc))))))
+    file (refused r p, exit) h r p refl
 
-read_keeps : (file : List ℕ) (output : ℕ) (play : List ℕ) (clock : ℕ) (entry exit : List ℕ) (n p : ℕ) → ReadReply file output play clock entry (ReadBack.Refused n p, exit) → exit ≡ entry
-read_keeps file output play clock entry exit n p r =
-    let g = guard_keeps ReadBack.Refused entry in
-    call_keeps ReadBack.Refused entry _ (λ N d low k. g _ 13 _ (g _ 11 _ (g _ 14 _ (g _ 18 _ (g _ 19 _ (g _ 15 _ (λ a w n p e. absurd (omega (arith, ap {B = ℕ} (λ a. elim a [ ReadBack.Read k ↦ 1 | ReadBack.Refused k q ↦ 0 ]) (sym w.0 ∙ e))))))))))
-    file (ReadBack.Refused n p, exit) r n p refl
+read_keeps : (file : List ℕ) (output : ℕ) (play : List ℕ) (clock : ℕ) (entry exit : List ℕ) (r : Reason) (p : ℕ) → ReadReply file output play clock entry (refused r p, exit) → exit ≡ entry
+read_keeps file output play clock entry exit r p h =
+    let g = guard_keeps refused entry in
+    call_keeps refused entry _ (λ N d low k. g _ _ _ (g _ _ _ (g _ _ _ (g _ _ _ (g _ _ _ (g _ _ _ (λ a w r p e. let f = w.0 in cc)))))))
+    file (refused r p, exit) h r p refl
 
-found_keeps : (N : Netlist) (B : Blocks) (d : ℕ) (fault : Fault) (entry : List ℕ) (a : Searched × List ℕ) → Searches N B d fault entry a → Keeps Searched.Refused entry a
-found_keeps N B d fault entry a (finds F P s) n p e = absurd (omega (arith, ap {B = ℕ} (λ a. elim a [ Searched.Found z m k ↦ 1 | Searched.Untestable k ↦ 1 | Searched.Refused k q ↦ 0 ]) e))
-found_keeps N B d fault entry a (finds_none U g) n p e = refl
+found_keeps : (N : Netlist) (B : Blocks) (d : ℕ) (fault : Fault) (entry : List ℕ) (a : Searched × List ℕ) → Searches N B d fault entry a → Keeps search_refused entry a
+found_keeps N B d fault entry a (finds F P s) r p e = cc
+found_keeps N B d fault entry a (finds_none U g) r p e = refl
 
-search_keeps : (file : List ℕ) (fault : Fault) (entry exit : List ℕ) (n p : ℕ) → SearchReply file fault entry (Searched.Refused n p, exit) → exit ≡ entry
-search_keeps file fault entry exit n p r =
-    let g = guard_keeps Searched.Refused entry in
-    call_keeps Searched.Refused entry _ (λ N d low k. g _ 12 _ (g _ 11 _ (g _ 16 _ (g _ 15 _ (found_keeps N (blocks N low) d fault entry)))))
-    file (Searched.Refused n p, exit) r n p refl
+search_keeps : (file : List ℕ) (fault : Fault) (entry exit : List ℕ) (r : Reason) (p : ℕ) → SearchReply file fault entry (search_refused r p, exit) → exit ≡ entry
+search_keeps file fault entry exit r p h =
+    let g = guard_keeps search_refused entry in
+    call_keeps search_refused entry _ (λ N d low k. g _ _ _ (g _ _ _ (g _ _ _ (g _ _ _ (found_keeps N (blocks N low) d fault entry)))))
+    file (search_refused r p, exit) h r p refl
 
 -- What is read back or shown is so from clock d on.
 
-read_late : (file : List ℕ) (output : ℕ) (play : List ℕ) (clock : ℕ) (entry exit : List ℕ) (n : ℕ) → ReadReply file output play clock entry (ReadBack.Read n, exit) → OfChip file (λ N d _. d ≤ clock)
+read_late : (file : List ℕ) (output : ℕ) (play : List ℕ) (clock : ℕ) (entry exit : List ℕ) (n : ℕ) → ReadReply file output play clock entry (got n, exit) → OfChip file (λ N d _. d ≤ clock)
 read_late file output play clock entry exit n (opened {N = M} o (prepared {d = d} {low = l} {k = c} P (goes_on _ (goes_on _ (goes_on _ (goes_on _ (goes_on _ (goes_on _ (e, r))))))))) = (M, d, l, c, o, P, r.reads.late)
 
-check_late : (file : List ℕ) (fault : Fault) (play : List ℕ) (t z : ℕ) → CheckReply file fault play (Checked.Shown t z) → OfChip file (λ N d _. d ≤ t)
+check_late : (file : List ℕ) (fault : Fault) (play : List ℕ) (t z : ℕ) → CheckReply file fault play (got (Option.Some (record { clock = t; output = z }))) → OfChip file (λ N d _. d ≤ t)
 check_late file fault play t z (opened {N = M} o (prepared {d = d} {low = l} {k = c} P (goes_on _ (goes_on _ (goes_on _ (shows _ s)))))) = (M, d, l, c, o, P, s.from)
 
 -- The slips, each on a circuit on which it goes wrong.
@@ -280,7 +284,7 @@ set_forward_out : None setting SetsForward
 unfolding working sets
 set_forward_out version kind all =
     let g = sets.left.0 in
-    let e : version g ≡ (Setting.Set 2, 1 ∷ 0 ∷ []) = one_set_reply listing 0 (1 ∷ 0 ∷ []) (0 ∷ 0 ∷ []) (all g) sets.left.1.1 in
+    let e : version g ≡ (got 2, 1 ∷ 0 ∷ []) = one_set_reply listing 0 (1 ∷ 0 ∷ []) (0 ∷ 0 ∷ []) (all g) sets.left.1.1 in
     let f = kind g 2 (ap (λ a. a.0) e) (N listing (tt, tt)) _ _ _ (opens listing (tt, tt)) (known listing (tt, tt)) 0 1 (deep_block (tt, tt)) in
     false≢true (ap (λ a. play_of 1 a.1 1 0) (sym e) ∙ f)
 
@@ -288,7 +292,7 @@ read_forward_out : None reading ReadsForward
 unfolding working reads
 read_forward_out version kind all =
     let g = reads.left.0 in
-    let e : version g ≡ (ReadBack.Read 2, 1 ∷ 0 ∷ []) = one_read_reply listing 0 (1 ∷ 0 ∷ []) 1 (0 ∷ 0 ∷ []) (all g) reads.left.1.1 in
+    let e : version g ≡ (got 2, 1 ∷ 0 ∷ []) = one_read_reply listing 0 (1 ∷ 0 ∷ []) 1 (0 ∷ 0 ∷ []) (all g) reads.left.1.1 in
     let f = kind g 2 (ap (λ a. a.0) e) (N listing (tt, tt)) _ _ _ (opens listing (tt, tt)) (known listing (tt, tt)) 0 1 1 (deep_block (tt, tt)) refl in
     true≢false (ap (λ a. pattern_of a.1 0) (sym e) ∙ f)
 
@@ -297,9 +301,9 @@ one_play_out : None setting OnePlay
 unfolding working
 one_play_out version kind all =
     let g : ℕ → ToSet = λ z. record { file = lent two_outputs refl; output = z; pattern = lent (1 ∷ 0 ∷ []) refl; play = lent (0 ∷ 0 ∷ []) refl } in
-    let e : version (g 0) ≡ (Setting.Set 2, 1 ∷ 0 ∷ []) =
+    let e : version (g 0) ≡ (got 2, 1 ∷ 0 ∷ []) =
     one_set_reply two_outputs 0 (1 ∷ 0 ∷ []) (0 ∷ 0 ∷ []) (all (g 0)) (set_reply two_outputs (tt, tt) 0 (1 ∷ 0 ∷ []) (0 ∷ 0 ∷ []) (omega arith) (no (λ l. omega arith))).1 in
-    let f : version (g 1) ≡ (Setting.Set 2, 0 ∷ 0 ∷ []) =
+    let f : version (g 1) ≡ (got 2, 0 ∷ 0 ∷ []) =
     one_set_reply two_outputs 1 (1 ∷ 0 ∷ []) (0 ∷ 0 ∷ []) (all (g 1)) (set_reply two_outputs (tt, tt) 1 (1 ∷ 0 ∷ []) (0 ∷ 0 ∷ []) (omega arith) (no (λ l. omega arith))).1 in
     differ_out e f (kind (g 0) (g 1) 2 2 refl refl refl (ap (λ a. a.0) e) (ap (λ a. a.0) f))
 
@@ -309,9 +313,9 @@ unfolding working
 clock_0_out version kind all =
     let g = to_read (0 ∷ 1 ∷ []) refl 1 in
     let h = to_read (0 ∷ 0 ∷ []) refl 1 in
-    let e : version g ≡ (ReadBack.Read 1, 1 ∷ []) =
+    let e : version g ≡ (got 1, 1 ∷ []) =
     one_read_reply straight 0 (0 ∷ 1 ∷ []) 1 (0 ∷ []) (all g) (read_reply straight (tt, tt) 0 (0 ∷ 1 ∷ []) 2 1 (0 ∷ []) (omega arith) (no (λ l. omega arith))).1 in
-    let f : version h ≡ (ReadBack.Read 1, 0 ∷ []) =
+    let f : version h ≡ (got 1, 0 ∷ []) =
     one_read_reply straight 0 (0 ∷ 0 ∷ []) 1 (0 ∷ []) (all h) (read_reply straight (tt, tt) 0 (0 ∷ 0 ∷ []) 2 1 (0 ∷ []) (omega arith) (no (λ l. omega arith))).1 in
     differ_out e f (kind g h 1 1 (refl, refl, refl) refl refl refl (ap (λ a. a.0) e) (ap (λ a. a.0) f))
 
@@ -377,30 +381,28 @@ shut_out =
       class_constant = constant_out classing classes;
       class_hanging = λ version kind all.
           let g = lent hanging refl in
-          let e : Classed.Refused 9 1 ≡ Classed.Refused 9 2 = sym (kind g hung.0 1 hung.1 hung.2) ∙ one_class_reply hanging (all g) (unopened small_circuits.p9_hanging) in
-          let z : ◌≡◌ {A = ℕ} 1 2 = cc in
-          omega arith;
+          omega (arith, (same_refusal (kind g hung.0 1 hung.1 hung.2) (one_class_reply hanging (all g) (unopened small_circuits.p9_hanging))).1);
       class_pairs = pairs_out;
       transform_refuses = refuses_out transforming transforms;
       transform_constant = constant_out transforming transforms;
       transform_idle = idle_out transforming (λ g a b. one_transform_reply g.file.list g.out.list) (λ g. g.out.list) transforms.left (omega arith);
-      transform_room = without_out transforming transforms 15 10 (record { file = lent straight refl; out = lent [] refl }, transform_reply straight (tt, tt) [] (omega arith) (yes (omega arith))) refl;
+      transform_room = without_out transforming transforms Reason.ShortBuffer 10 (record { file = lent straight refl; out = lent [] refl }, transform_reply straight (tt, tt) [] (omega arith) (yes (omega arith))) refl;
       transform_keeps = transform_keeps;
       set_refuses = refuses_out setting sets;
       set_constant = constant_out setting sets;
       set_idle = idle_out setting (λ g a b. one_set_reply g.file.list g.output g.pattern.list g.play.list) (λ g. g.play.list) sets.left (omega arith);
       set_keeps = set_keeps;
-      set_room = without_out setting sets 15 1 (record { file = lent straight refl; output = 0; pattern = lent (1 ∷ []) refl; play = lent [] refl }, set_reply straight (tt, tt) 0 (1 ∷ []) [] (omega arith) (yes (omega arith))) refl;
+      set_room = without_out setting sets Reason.ShortBuffer 1 (record { file = lent straight refl; output = 0; pattern = lent (1 ∷ []) refl; play = lent [] refl }, set_reply straight (tt, tt) 0 (1 ∷ []) [] (omega arith) (yes (omega arith))) refl;
       set_one_play = one_play_out;
       set_forward = set_forward_out;
-      set_byte = without_out setting sets 18 0 (to_set (2 ∷ []) refl, set_reply straight (tt, tt) 0 (2 ∷ []) (0 ∷ []) (omega arith) (no (λ l. omega arith))) refl;
+      set_byte = without_out setting sets Reason.BadByte 0 (to_set (2 ∷ []) refl, set_reply straight (tt, tt) 0 (2 ∷ []) (0 ∷ []) (omega arith) (no (λ l. omega arith))) refl;
       read_refuses = refuses_out reading reads;
       read_constant = constant_out reading reads;
       read_idle = idle_out reading (λ g a b. one_read_reply g.file.list g.output g.play.list g.clock g.pattern.list) (λ g. g.pattern.list) reads.left (omega arith);
       read_keeps = read_keeps;
-      read_byte = without_out reading reads 18 0 (to_read (2 ∷ []) refl 0, read_reply straight (tt, tt) 0 (2 ∷ []) 1 0 (0 ∷ []) (omega arith) (no (λ l. omega arith))) refl;
-      read_clock = without_out reading reads 19 1 (to_read (1 ∷ []) refl 1, read_reply straight (tt, tt) 0 (1 ∷ []) 1 1 (0 ∷ []) (omega arith) (no (λ l. omega arith))) refl;
-      read_room = without_out reading reads 15 1 (
+      read_byte = without_out reading reads Reason.BadByte 0 (to_read (2 ∷ []) refl 0, read_reply straight (tt, tt) 0 (2 ∷ []) 1 0 (0 ∷ []) (omega arith) (no (λ l. omega arith))) refl;
+      read_clock = without_out reading reads Reason.BadClock 1 (to_read (1 ∷ []) refl 1, read_reply straight (tt, tt) 0 (1 ∷ []) 1 1 (0 ∷ []) (omega arith) (no (λ l. omega arith))) refl;
+      read_room = without_out reading reads Reason.ShortBuffer 1 (
         record { file = lent straight refl; output = 0; play = lent (1 ∷ []) refl; clock = 0; pattern = lent [] refl },
         read_reply straight (tt, tt) 0 (1 ∷ []) 1 0 [] (omega arith) (yes (omega arith)),
       ) refl;
@@ -409,7 +411,7 @@ shut_out =
       read_forward = read_forward_out;
       check_refuses = refuses_out checking checks;
       check_constant = constant_out checking checks;
-      check_byte = let w = check_reply straight (tt, tt) stuck_input (2 ∷ []) 1 (omega arith) in without_out checking checks 18 0 (to_test (2 ∷ []) refl, ((w.0, []), w.1)) refl;
+      check_byte = let w = check_reply straight (tt, tt) stuck_input (2 ∷ []) 1 (omega arith) in without_out checking checks Reason.BadByte 0 (to_test (2 ∷ []) refl, ((w.0, []), w.1)) refl;
       check_clock_0 = λ version (answer, kind) all.
           let e = same checking checks checks.left version all in
           let f = same checking checks checks.right version all in
@@ -430,7 +432,7 @@ shut_out =
       search_constant = constant_out searching searches;
       search_idle = idle_out searching (λ g a b. one_search_reply g.file.list g.fault g.play.list) (λ g. g.play.list) searches.left (omega arith);
       search_keeps = search_keeps;
-      search_room = without_out searching searches 15 1 (to_test [] refl, search_reply straight (tt, tt) stuck_input (omega arith) [] (yes (omega arith))) refl;
+      search_room = without_out searching searches Reason.ShortBuffer 1 (to_test [] refl, search_reply straight (tt, tt) stuck_input (omega arith) [] (yes (omega arith))) refl;
       search_one_block = one_block_out;
       search_tries = search_tries;
       search_all_tries = search_all_tries;

@@ -18,7 +18,8 @@ use Rattle.chip.proofs.Basics.{Counted}
 use Rattle.chip.proofs.Blocks.{counted}
 use Rattle.chip.proofs.Loops.{ranked}
 use Rattle.chip.proofs.Pads.{some_yes, back_named}
-use Rattle.copies.specs.Inner.Marks.{flat_way, FlatMarks, FirstBlocks, Copies}
+use Rattle.copies.specs.Inner.Marks.{flat_way, FlatMarks, FirstBlocks, CopiesOf}
+use Rattle.copies.specs.declared.Copies.{Copies}
 use Rattle.blocks.specs.Labels.{Numbered}
 use Rattle.copies.proofs.Copied.{way_on, flat_copied}
 
@@ -69,16 +70,17 @@ module _ (N : Netlist) (L : InLimits N) (free : LoopFree N) (B : Blocks) (C : Co
 
 -- what was found are the copies
 module _ (N : Netlist) (L : InLimits N) (free : LoopFree N) (low : ℕ → ℕ) (W : Lowest N low) where
-  pub found_copies : (b : ℕ) (block lowest marks numbers : List ℕ) (r : ℕ) → Numbered N low block b → FirstBlocks N (blocks N low) lowest → FlatMarks N (blocks N low) (all_pins N) marks → length numbers ≡ 65536
-      → r ≡ sum_below (λ l. get_or marks l 0) (1024 * b) → ((k : ℕ) → k < 1024 * b → get_or numbers k 0 ≡ sum_below (λ l. get_or marks l 0) k) → Copies N (blocks N low) lowest marks numbers r
-  found_copies b block lowest marks numbers r D F K long e h =
+  pub found_copies : (b : ℕ) (block : List ℕ) (found : Copies) → Numbered N low block b → FirstBlocks N (blocks N low) found.lowest → FlatMarks N (blocks N low) (all_pins N) found.marks
+      → length found.numbers ≡ 65536 → found.count ≡ sum_below (λ l. get_or found.marks l 0) (1024 * b)
+      → ((k : ℕ) → k < 1024 * b → get_or found.numbers k 0 ≡ sum_below (λ l. get_or found.marks l 0) k) → CopiesOf N (blocks N low) found
+  found_copies b block found D F K long e h =
       let C : Counted N (blocks N low) = counted N low W in
       record {
         marks_long = K.long;
         numbers_long = long;
         lowest_is = F;
-        marked = λ a j l c. within N L free (blocks N low) C marks K a j c;
-        numbered = λ a j l c. h (1024 * a + j) (omega (arith, D.count_is, L.few_cells)) ∙ number_is N L free (blocks N low) C marks K a j (omega arith);
-        cells_only = beyond N L free (blocks N low) C marks K;
-        count_is = e ∙ ap (λ m. sum_below (λ l. get_or marks l 0) (1024 * m)) D.count_is ∙ all_are N L free (blocks N low) C marks K;
+        marked = λ a j l c. within N L free (blocks N low) C found.marks K a j c;
+        numbered = λ a j l c. h (1024 * a + j) (omega (arith, D.count_is, L.few_cells)) ∙ number_is N L free (blocks N low) C found.marks K a j (omega arith);
+        cells_only = beyond N L free (blocks N low) C found.marks K;
+        count_is = e ∙ ap (λ m. sum_below (λ l. get_or found.marks l 0) (1024 * m)) D.count_is ∙ all_are N L free (blocks N low) C found.marks K;
       }

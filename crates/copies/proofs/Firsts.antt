@@ -1,10 +1,10 @@
 -- The lowest block of each input, from the blocks of the branches.
-use Prim.Native.Nat.{ℕ, zero, suc, ◌+◌, ◌≤◌, ◌<◌}
+use Prim.Native.Nat.{ℕ, zero, suc, ◌+◌, ◌≤◌, ◌<◌, max}
 use mathlib.Core.Path.{◌≡◌, refl, sym, ap, ◌∙◌}
-use mathlib.Core.Logic.{◌⊎◌, inl, inr}
+use mathlib.Core.Logic.{inl, inr}
 use mathlib.Core.Bool.{Bool, true, false}
 use mathlib.Core.List.{List}
-use native.Mathlib.Decide.{dec_lt, ℕ_discrete}
+use native.Mathlib.Decide.{dec_le, dec_lt, ℕ_discrete}
 use native.Mathlib.Omega.{arith}
 use borrow.Author.Tests.{eqb-true}
 use lib.Dec.{eqb}
@@ -24,26 +24,30 @@ use Rattle.copies.specs.Inner.Marks.{NextBlock}
 pub next_start : (branches block : List ℕ) (x at : ℕ) → NextBlock branches block x at 0 (at + 1)
 next_start branches block x at = record { over = omega arith; above = λ p h _. absurd (omega arith); met = inl refl }
 
-module _ (branches block : List ℕ) (x at n r : ℕ) (K : NextBlock branches block x at n r) where
-  wider : {s : ℕ} → s ≡ r → (s ≡ at + 1) ⊎ ((p : ℕ) × (p < n + 1) × (get_or branches p 0 ≡ x) × (s ≡ get_or block p 0 + 1))
-  wider e = elim K.met [
-    | inl q ↦ inl (e ∙ q)
-    | inr t ↦ let (p, h, b, q) = t in inr (p, omega arith, b, e ∙ q)
-  ]
-
-  -- a pin whose block is not above, and one that is
-  pub next_skip : (get_or branches n 0 ≡ x → get_or block n 0 < r) → NextBlock branches block x at (n + 1) r
-  next_skip g = record {
-    over = K.over;
-    above = λ p h b. elim (ℕ_discrete p n) [ yes e ↦ rw e (g (rw e at b)) | no f ↦ K.above p (omega arith) b ];
-    met = wider refl;
+module _ (branches block : List ℕ) (x at n r s : ℕ) (K : NextBlock branches block x at n r) where
+  -- a pin that is no branch of x
+  pub next_skip : (get_or branches n 0 ≡ x → ⊥) → s ≡ r → NextBlock branches block x at (n + 1) s
+  next_skip g e = record {
+    over = omega (arith, K.over);
+    above = λ p h b. elim (ℕ_discrete p n) [ yes q ↦ absurd (g (rw q at b)) | no f ↦ omega (arith, K.above p (omega arith) b) ];
+    met = elim K.met [
+      | inl q ↦ inl (e ∙ q)
+      | inr t ↦ let (p, h, b, q) = t in inr (p, omega arith, b, e ∙ q)
+    ];
   }
 
-  pub next_more : get_or branches n 0 ≡ x → r ≤ get_or block n 0 → NextBlock branches block x at (n + 1) (get_or block n 0 + 1)
-  next_more b h = record {
+  -- and one that is
+  pub next_more : get_or branches n 0 ≡ x → s ≡ max r (get_or block n 0 + 1) → NextBlock branches block x at (n + 1) s
+  next_more b e = record {
     over = omega (arith, K.over);
-    above = λ p l c. elim (ℕ_discrete p n) [ yes e ↦ rw e (omega arith) | no f ↦ omega (arith, K.above p (omega arith) c) ];
-    met = inr (n, omega arith, b, refl);
+    above = λ p l c. elim (ℕ_discrete p n) [ yes q ↦ rw q (omega arith) | no f ↦ omega (arith, K.above p (omega arith) c) ];
+    met = elim (dec_le r (get_or block n 0 + 1)) [
+      | yes h ↦ inr (n, omega arith, b, omega arith)
+      | no f ↦ elim K.met [
+        | inl q ↦ inl (omega arith)
+        | inr t ↦ let (p, h, c, q) = t in inr (p, omega arith, c, omega arith)
+      ]
+    ];
   }
 
 -- the last number that passes a test

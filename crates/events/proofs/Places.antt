@@ -1,7 +1,7 @@
 -- A bit for each place: one set, the next one found, those of some readers set.
-use Prim.Native.Nat.{ℕ, ◌+◌, ◌-◌, ◌/◌, ◌%◌, ◌^◌, ◌≤◌, ◌<◌}
+use Prim.Native.Nat.{ℕ, ◌+◌, ◌-◌, ◌/◌, ◌%◌, ◌^◌, ◌<◌}
 use mathlib.Core.Path.{◌≡◌, refl, sym, ap, ◌∙◌}
-use mathlib.Core.Logic.{inl, inr, ◌≢◌}
+use mathlib.Core.Logic.{◌≢◌}
 use mathlib.Core.Bool.{true, ◌||◌, or-true, or-false}
 use mathlib.Core.List.{List}
 use native.Mathlib.Omega.{arith}
@@ -9,12 +9,12 @@ use native.Mathlib.Decide.{ℕ_discrete}
 use borrow.Author.Tests.{eq-eqb, ne_eqb}
 use lib.ListN.{length, get_or, set, length-set}
 use lib.Seq.{get_or-set_same, get_or-set_other}
-use lib.Bits.{bit_and, bit_or}
+use lib.Bits.{bit_or}
 use Rattle.chip.specs.Search.{digit}
 use Rattle.words.specs.Bits.{LowestBit}
 use Rattle.words.proofs.Bits.{digit_or, digit_one}
 use Rattle.rows.proofs.Bits.{shift, bit_below}
-use Rattle.events.specs.Events.{marked, BitPut, LowMark, Marks}
+use Rattle.events.specs.Events.{BitPut, LowMark}
 
 -- ---- one bit set
 
@@ -52,49 +52,3 @@ low_mark bits at l w L =
           let place : t % 64 ≡ at % 64 + (t - at) = omega arith in
           rw (place, q) (sym (shift (get_or bits (at / 64) 0) (at % 64) (t - at)) ∙ L.zeros (t - at) (omega arith));
     }
-
--- ---- the bits of some readers
-
-pub marks_none : (from u : ℕ) (readers reach marks : List ℕ) → length marks ≡ 16 → Marks from from u readers reach marks marks
-marks_none from u readers reach marks l = record { long = l; kept = λ t e. e; put = λ r a b g. absurd (omega arith); only = λ t e. inl e }
-
-pub marks_skip : (from x u : ℕ) (readers reach marks marks' : List ℕ) (p : ℕ) → Marks from x u readers reach marks marks' → p ≡ get_or readers x 0 → bit_and (get_or reach p 0) u ≡ 0
-    → Marks from (x + 1) u readers reach marks marks'
-marks_skip from x u readers reach marks marks' p M e z =
-    record {
-      long = M.long;
-      kept = M.kept;
-      put = λ r a b g. elim (ℕ_discrete r x) [
-        | yes q ↦ absurd (g (ap (λ y. bit_and (get_or reach y 0) u) (ap (λ y. get_or readers y 0) q ∙ sym e) ∙ z))
-        | no d ↦ M.put r a (omega arith) g
-      ];
-      only = λ t h. elim (M.only t h) [
-        | inl b ↦ inl b
-        | inr s ↦ let (r, a, b, q) = s in inr (r, a, omega arith, q)
-      ];
-    }
-
-pub marks_more : (from x u : ℕ) (readers reach marks marks' marks'' : List ℕ) (p : ℕ) → from ≤ x → Marks from x u readers reach marks marks' → p ≡ get_or readers x 0 → BitPut p marks' marks''
-    → Marks from (x + 1) u readers reach marks marks''
-marks_more from x u readers reach marks marks' marks'' p f M e B =
-    record {
-      long = B.long;
-      kept = λ t h. up t (M.kept t h);
-      put = λ r a b g. elim (ℕ_discrete r x) [
-        | yes q ↦ let same : get_or readers r 0 ≡ p = ap (λ y. get_or readers y 0) q ∙ sym e in ap (marked marks'') same ∙ B.here
-        | no d ↦ up (get_or readers r 0) (M.put r a (omega arith) g)
-      ];
-      only = λ t h. elim (ℕ_discrete t p) [
-        | yes q ↦ inr (x, f, omega arith, q ∙ e)
-        | no d ↦ elim (M.only t (sym (B.other t d) ∙ h)) [
-          | inl b ↦ inl b
-          | inr s ↦ let (r, a, b, q) = s in inr (r, a, omega arith, q)
-        ]
-      ];
-    }
-  where
-    up : (t : ℕ) → marked marks' t ≡ true → marked marks'' t ≡ true
-    up t h = elim (ℕ_discrete t p) [
-      | yes q ↦ ap (marked marks'') q ∙ B.here
-      | no d ↦ B.other t d ∙ h
-    ]

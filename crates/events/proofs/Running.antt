@@ -1,6 +1,6 @@
 -- One cell worked out, all marked cells worked out, the good words put back.
 use Prim.Native.Nat.{ℕ, ◌+◌, ◌*◌, ◌/◌, ◌%◌, ◌≤◌, ◌<◌}
-use mathlib.Core.Path.{◌≡◌, refl, sym, ap, ◌∙◌}
+use mathlib.Core.Path.{◌≡◌, sym, ap, ◌∙◌}
 use mathlib.Core.Logic.{◌⊎◌, inl, inr, ◌≢◌}
 use mathlib.Core.Bool.{true, false, false≢true}
 use mathlib.Core.List.{List}
@@ -15,7 +15,7 @@ use lib.Bits.{bit_and}
 use Rattle.words.specs.Lanes.{gate_word}
 use Rattle.rows.specs.Rows.{Filled, on_row}
 use Rattle.rows.proofs.Fill.{row_at}
-use Rattle.events.specs.Events.{marked, BitPut, LowMark, Live, Marks, Chip, shown, Obeys, Agree, Stepped, Ran, Marked, Restored, Worked}
+use Rattle.events.specs.Events.{marked, BitPut, LowMark, Live, Marks, Chip, shown, Obeys, Agree, Stepped, Worked}
 
 -- the words of a slot that is filled, and the others
 pub outside : (s : ℕ) (word : ℕ → ℕ) (vals vals' : List ℕ) → Filled (16 * s) 16 word vals vals' → (x : ℕ) → x / 16 ≢ s → get_or vals' x 0 ≡ get_or vals x 0
@@ -104,23 +104,6 @@ module _ (c : ℕ) (kinds counts firsts src order reach heads readers : List ℕ
       ∙ ap (λ i. gate_word (get_or kinds i 0) (on_row src vals k) (get_or firsts i 0) (get_or counts i 0)) e
 
   module _ (u p : ℕ) (h : p < c) (vals marks changed : List ℕ) where
-    -- nothing new is shown
-    pub stepped_same : (blank acc : List ℕ) (j : ℕ) → length marks ≡ 16 → length changed ≡ 16 → j ≡ get_or order p 0 → Row j vals blank acc
-        → ((k : ℕ) → k < 16 → get_or acc k 0 ≡ get_or vals (16 * (16 + j) + k) 0) → Stepped c u p kinds counts firsts src order reach vals marks changed vals marks changed
-    stepped_same blank acc j lm lc e R r =
-        record {
-          long = refl;
-          long_marks = lm;
-          long_changed = lc;
-          obeys = record { rule = λ k b. ap (λ s. get_or vals (16 * (16 + s) + k) 0) (sym e) ∙ sym (r k b) ∙ row_is j p vals blank acc e R k b };
-          others = λ x g. refl;
-          within = λ w. w;
-          behind = λ t l O. O;
-          still = λ t l g v m. (m, λ O. O);
-          bounded = λ w. w;
-          agree = λ goods A. A;
-        }
-
     -- something new is shown
     pub stepped_new : (blank acc vals' marks' changed' : List ℕ) (j : ℕ) → j ≡ get_or order p 0 → Row j vals blank acc
         → Filled (16 * (16 + j)) 16 (λ k. get_or acc k 0) vals vals' → BitPut p changed changed' → Marks (get_or heads (4160 + j) 0) (get_or heads (4160 + j + 1) 0) u readers reach marks marks'
@@ -164,22 +147,6 @@ module _ (c : ℕ) (kinds counts firsts src order reach heads readers : List ℕ
         out : (x : ℕ) → x / 16 ≢ place p → get_or vals' x 0 ≡ get_or vals x 0
         out x g = outside (16 + j) (λ k. get_or acc k 0) vals vals' F x (λ y. g (omega arith))
 
-  pub run_start : (from u : ℕ) (vals marks changed : List ℕ) → length marks ≡ 16 → length changed ≡ 16 → Marked from c u kinds counts firsts src order reach vals marks
-      → Running from c u kinds counts firsts src order reach vals changed from vals marks changed
-  run_start from u vals marks changed lm lc M =
-      record {
-        low = omega arith;
-        long = refl;
-        long_marks = lm;
-        long_changed = lc;
-        within = M.within;
-        done = λ t a b l v. absurd (omega arith);
-        rest = λ t a l v m. M.rest t a l v m;
-        others = λ x g. refl;
-        bounded = λ w. w;
-        agree = λ goods A. A;
-      }
-
   module _ (from u : ℕ) (vals₀ changed₀ : List ℕ) (at : ℕ) (vals marks changed : List ℕ) (R : Running from c u kinds counts firsts src order reach vals₀ changed₀ at vals marks changed) (l : ℕ) (L : LowMark marks at l) where
     -- the places up to the next mark hold what their cells show
     upto : (t : ℕ) → from ≤ t → t < at + l → t / 64 ≡ at / 64 ⊎ t < at → t < c → Live reach u t → Rule vals t
@@ -220,44 +187,7 @@ module _ (c : ℕ) (kinds counts firsts src order reach heads readers : List ℕ
           | no g ↦ inl (omega (arith, L.inside h))
         ]
 
-    -- no mark in the rest of this word
-    pub run_skip : 64 ≤ l → Running from c u kinds counts firsts src order reach vals₀ changed₀ ((at / 64 + 1) * 64) vals marks changed
-    run_skip h =
-        record {
-          low = omega (arith, R.low);
-          long = R.long;
-          long_marks = R.long_marks;
-          long_changed = R.long_changed;
-          within = R.within;
-          done = λ t a b q v. upto t a (omega (arith, L.upto)) (here t b) q v;
-          rest = λ t a q v m. R.rest t (omega arith) q v m;
-          others = R.others;
-          bounded = R.bounded;
-          agree = R.agree;
-        }
-      where
-        here : (t : ℕ) → t < (at / 64 + 1) * 64 → t / 64 ≡ at / 64 ⊎ t < at
-        here t b = elim (dec_lt t at) [
-          | yes q ↦ inr q
-          | no g ↦ inl (omega arith)
-        ]
-
-  pub run_done : (from u : ℕ) (vals₀ changed₀ : List ℕ) (at : ℕ) (vals marks changed : List ℕ) → c ≤ at → Running from c u kinds counts firsts src order reach vals₀ changed₀ at vals marks changed
-      → Ran from c u kinds counts firsts src order reach vals₀ changed₀ vals changed
-  run_done from u vals₀ changed₀ at vals marks changed h R =
-      record {
-        long = R.long;
-        long_changed = R.long_changed;
-        obeys = λ t a q v. R.done t a (omega arith) q v;
-        others = R.others;
-        bounded = R.bounded;
-        agree = R.agree;
-      }
-
   -- ---- the good words of a chunk
-
-  pub worked_none : (u : ℕ) (goods : List ℕ) → Worked c u kinds counts firsts src order reach goods goods 0
-  worked_none u goods = record { long = refl; obeys = λ t a v. absurd (omega arith); others = λ x g. refl }
 
   pub worked_skip : (u : ℕ) (goods goods' : List ℕ) (n : ℕ) → bit_and (get_or reach n 0) u ≡ 0 → Worked c u kinds counts firsts src order reach goods goods' n
       → Worked c u kinds counts firsts src order reach goods goods' (n + 1)
@@ -299,13 +229,7 @@ pub record Restoring (from c : ℕ) (order goods changed vals₀ : List ℕ) (at
   pub rest : (x : ℕ) → ((t : ℕ) → at ≤ t → t < c → marked changed t ≡ true → x / 16 ≢ 16 + get_or order t 0) → get_or vals x 0 ≡ get_or goods x 0
 
 module _ (from c : ℕ) (order goods changed vals₀ : List ℕ) (in_order : (t : ℕ) → marked changed t ≡ true → t < c) (from_on : (t : ℕ) → marked changed t ≡ true → from ≤ t) where
-  pub restore_start : Agree c order goods changed vals₀ → Restoring from c order goods changed vals₀ from vals₀
-  restore_start A = record { low = omega arith; long = refl; rest = λ x g. A x (λ t l m. g t (from_on t m) l m) }
-
   module _ (at : ℕ) (vals : List ℕ) (R : Restoring from c order goods changed vals₀ at vals) (l : ℕ) (L : LowMark changed at l) where
-    pub restore_place : l < 64 → at + l < c
-    restore_place h = in_order (at + l) (L.found h)
-
     pub restore_step : (vals' : List ℕ) (j : ℕ) → l < 64 → j ≡ get_or order (at + l) 0 → Filled (16 * (16 + j)) 16 (λ k. get_or goods (16 * (16 + j) + k) 0) vals vals'
         → Restoring from c order goods changed vals₀ (at + l + 1) vals'
     restore_step vals' j h e F =
@@ -325,17 +249,3 @@ module _ (from c : ℕ) (order goods changed vals₀ : List ℕ) (in_order : (t 
             ])
           ];
         }
-
-    pub restore_skip : 64 ≤ l → Restoring from c order goods changed vals₀ ((at / 64 + 1) * 64) vals
-    restore_skip h =
-        record {
-          low = omega (arith, R.low);
-          long = R.long;
-          rest = λ x g. R.rest x (λ t a b m. elim (dec_lt t ((at / 64 + 1) * 64)) [
-            | yes y ↦ absurd (false≢true (sym (L.none t a (omega (arith, L.upto)) (omega arith)) ∙ m))
-            | no y ↦ g t (omega arith) b m
-          ]);
-        }
-
-pub restore_done : (from c : ℕ) (order goods changed vals₀ : List ℕ) (at : ℕ) (vals : List ℕ) → c ≤ at → Restoring from c order goods changed vals₀ at vals → Restored goods vals₀ vals
-restore_done from c order goods changed vals₀ at vals h R = record { long = R.long; good = λ x. R.rest x (λ t a b m. absurd (omega arith)) }

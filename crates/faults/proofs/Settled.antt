@@ -15,11 +15,11 @@ use Rattle.chip.specs.Pads.{is_buf, branch_of}
 use Rattle.chip.specs.Faults.{Lines}
 use Rattle.chip.specs.Inner.Direct.{through, comes}
 use Rattle.chip.proofs.Bools.{fails}
-use Rattle.chip.proofs.Basics.{net_cases, first_pin_lem, pin_named}
+use Rattle.chip.proofs.Basics.{net_cases, first_pin_lem}
 use Rattle.chip.proofs.Pads.{buf_is, kind_buf}
 use Rattle.chip.proofs.Direct.{through_input, through_buf, through_other}
 use Rattle.order.specs.Order.{Ordered}
-use Rattle.faults.specs.Decided.{decided_to, StuckNets, DecidedNets}
+use Rattle.faults.specs.Decided.{decided_to, DecidedNets}
 
 -- the inputs and the first t cells of the order are decided, with t or more steps back, and the other cells have what their nets make of a value
 pub record Settled (N : Netlist) (f : Lines) (order : List ℕ) (t : ℕ) (table : List ℕ) : Type 0 where
@@ -28,21 +28,9 @@ pub record Settled (N : Netlist) (f : Lines) (order : List ℕ) (t : ℕ) (table
   pub cell : (m k : ℕ) → m < t → t ≤ k → (b : Bool) → through N f k (N.inputs + get_or order m 0) b ≡ decided_to (get_or table (N.inputs + get_or order m 0) 0) b
   pub rest : (m : ℕ) → t ≤ m → m < N.cells → (b : Bool) → f.net (N.inputs + get_or order m 0) b ≡ decided_to (get_or table (N.inputs + get_or order m 0) 0) b
 
-pub settled_start : (N : Netlist) → InLimits N → (f : Lines) (order : List ℕ) → Ordered N order → (table : List ℕ) → StuckNets f table → Settled N f order 0 table
-settled_start N L f order O table K =
-    record {
-      long = K.long;
-      input = λ x l. K.at x (omega (arith, L.few_inputs));
-      cell = λ m k l. absurd (omega arith);
-      rest = λ m l h. K.at (N.inputs + get_or order m 0) (omega (arith, O.cell m h, L.few_inputs, L.few_cells));
-    }
-
 module _ (N : Netlist) (L : InLimits N) (f : Lines) (order : List ℕ) (O : Ordered N order) (t : ℕ) (table : List ℕ) (K : Settled N f order t table) (h : t < N.cells) where
   pub cell_low : get_or order t 0 < N.cells
   cell_low = O.cell t h
-
-  pub feed_low : N.net (first_pin N (get_or order t 0)) < N.inputs + N.cells
-  feed_low = pin_named N L.sound (get_or order t 0) (first_pin N (get_or order t 0)) (first_pin_lem N L.sound (get_or order t 0) cell_low)
 
   -- what feeds the cell is decided already
   fed_known : (k : ℕ) → t ≤ k → (b : Bool) → through N f k (N.net (first_pin N (get_or order t 0))) b ≡ decided_to (get_or table (N.net (first_pin N (get_or order t 0))) 0) b

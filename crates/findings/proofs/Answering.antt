@@ -14,7 +14,9 @@ use Rattle.chip.specs.Faults.{FaultIn, stuck, play_of}
 use Rattle.chip.specs.Search.{SiteReaches, Tables, width, digit}
 use Rattle.chip.specs.Search as S
 use Rattle.chip.specs.Refusals.{Step, refuses, goes_on, prepared, When11, Wide, When16, Short, leaving}
-use Rattle.chip.specs.Replies.{Searches, finds, finds_none, SearchOn}
+use Rattle.chip.specs.Replies.{Searches, finds, finds_none, SearchOn, search_refused}
+use Rattle.chip.specs.declared.Reason.{Reason}
+use Rattle.chip.specs.declared.Refusal.{Refusal}
 use Rattle.chip.specs.declared.Fault.{Fault}
 use Rattle.chip.specs.declared.Searched.{Searched}
 use Rattle.chip.specs.declared.Searched.TheVariants.{Found, Untestable, Refused}
@@ -36,14 +38,14 @@ use Rattle.walk.specs.declared.Walk.{Walk}
 use Rattle.walk.specs.declared.Walk.TheVariants as W
 use Rattle.spots.specs.Spots.{BlockSpots}
 use Rattle.spots.proofs.Playing.{Playable}
-use Rattle.findings.specs.Answered.{Settable, Answered}
+use Rattle.findings.specs.Answered.{Settable, Left, Answered}
 
 -- before the class is asked for
 module _ (N : Netlist) {d : ℕ} {low : ℕ → ℕ} {k : ℕ} (P : Prepared N d low k) (fault : Fault) (entry : List ℕ) where
-  pub reply_12 : ¬ FaultIn N fault → SearchOn N fault entry (Refused 12 0, entry)
+  pub reply_12 : ¬ FaultIn N fault → SearchOn N fault entry (search_refused Reason.NoFault 0, entry)
   reply_12 g = prepared P (refuses (record { there = refl; holds = g }))
 
-  pub reply_11 : (y : ℕ) → FaultIn N fault → When11 N y → SearchOn N fault entry (Refused 11 y, entry)
+  pub reply_11 : (y : ℕ) → FaultIn N fault → When11 N y → SearchOn N fault entry (search_refused Reason.ClassOne y, entry)
   reply_11 y K w = prepared P (goes_on (λ p h. h.holds K) (refuses w))
 
 module _ {N : Netlist} {n : ℕ} {s : Shape} {firsts order branches block reached : List ℕ} (R : Ready N n s firsts order branches block reached) (g : s.class ≢ 1)
@@ -109,15 +111,15 @@ module _ {N : Netlist} {n : ℕ} {s : Shape} {firsts order branches block reache
   P = R.shaped.prepared
 
   module _ (K : FaultIn N fault) where
-    pub reply_16 : (y : ℕ) (entry : List ℕ) → TooWide N.outs s.blocks outs reached y → y < N.outs → SearchOn N fault entry (Refused 16 y, entry)
+    pub reply_16 : (y : ℕ) (entry : List ℕ) → TooWide N.outs s.blocks outs reached y → y < N.outs → SearchOn N fault entry (search_refused Reason.WideOutput y, entry)
     reply_16 y entry t l = prepared P (goes_on (λ p h. h.holds K) (goes_on (not_uneven P g) (refuses (when_16 y t l))))
 
     from_15 : {entry : List ℕ} {a : Searched × List ℕ} → Walkable N s fault outs reached
-        → Step (Short entry (suc s.depth * N.inputs)) (leaving entry Refused 15) (Searches N B s.depth fault entry) a → SearchOn N fault entry a
+        → Step (Short entry (suc s.depth * N.inputs)) (leaving entry search_refused Reason.ShortBuffer) (Searches N B s.depth fault entry) a → SearchOn N fault entry a
     from_15 W r = prepared P (goes_on (λ p h. h.holds K) (goes_on (not_uneven P g) (goes_on (not_16 W) r)))
 
     pub reply_15 : (entry : List ℕ) → Walkable N s fault outs reached → length entry < (s.depth + 1) * N.inputs
-        → SearchOn N fault entry (Refused 15 ((s.depth + 1) * N.inputs), entry)
+        → SearchOn N fault entry (search_refused Reason.ShortBuffer ((s.depth + 1) * N.inputs), entry)
     reply_15 entry W l = rw (add-one s.depth) (from_15 W (refuses (record { there = refl; holds = rw (add-one s.depth) at l })))
 
     module _ (entry : List ℕ) (Y : Walkable N s fault outs reached) (l : suc s.depth * N.inputs ≤ length entry) where
@@ -180,19 +182,22 @@ playable {n = n} {s = s} {firsts = firsts} {order = order} {branches = branches}
 
 -- an answer that is known: a refusal, what it asks, and the reply
 module _ (N : Netlist) (s : Shape) (fault : Fault) (reached : List ℕ) (room : ℕ) where
-  pub answer_refused : (n p : ℕ) → ((entry : List ℕ) → length entry ≡ room → SearchOn N fault entry (Refused n p, entry)) → Answered N s fault reached room (Refused n p)
-  answer_refused n p h =
+  pub answer_refused : (e : Refusal) → ((entry : List ℕ) → length entry ≡ room → SearchOn N fault entry (Refused e, entry)) → Answered N s fault reached room (Refused e)
+  answer_refused e h =
       record {
         found = λ z m k f. let z : ◌≡◌ {A = ℕ} 0 1 = cc in absurd (omega arith);
-        replies = λ entry exit l e. subst (λ x. SearchOn N fault entry (Refused n p, x)) (sym e) (h entry l);
+        replies = λ entry exit l same. subst (λ x. SearchOn N fault entry (Refused e, x)) (sym same) (h entry l);
       }
 
   module _ (r : Searched) (A : Answered N s fault reached room r) (entry : List ℕ) (l : length entry ≡ room) where
-    pub replies_refused : (n p : ℕ) → r ≡ Refused n p → SearchOn N fault entry (Refused n p, entry)
-    replies_refused n p e = (subst (Answered N s fault reached room) e A).replies entry entry l refl
-
-    pub replies_none : (k : ℕ) → r ≡ Untestable k → SearchOn N fault entry (Untestable k, entry)
-    replies_none k e = (subst (Answered N s fault reached room) e A).replies entry entry l refl
+    -- where nothing is found, nothing is left to be written
+    pub replies_unset : ((z m k : ℕ) → r ≢ Found z m k) → SearchOn N fault entry (r, entry)
+    replies_unset none = A.replies entry entry l (go r none)
+      where
+        go : (a : Searched) → ((z m k : ℕ) → a ≢ Found z m k) → Left N s.depth reached entry entry a
+        go (Found z m k) g = absurd (g z m k refl)
+        go (Untestable k) g = refl
+        go (Refused e) g = refl
 
     pub replies_found : (z m k : ℕ) (exit : List ℕ) → r ≡ Found z m k → ((low : ℕ → ℕ) → Lowest N low → Played N (blocks N low) s.depth z m reached entry exit)
         → SearchOn N fault entry (Found z m k, exit)

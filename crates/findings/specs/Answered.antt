@@ -33,7 +33,7 @@ pub record Settable (N : Netlist) (s : Shape) (reached : List ℕ) (room z m : �
 abbrev pub Left : Netlist → ℕ → List ℕ → List ℕ → List ℕ → Searched → Type 0
 Left N d reached entry exit (Found z m k) = (low : ℕ → ℕ) → Lowest N low → Played N (blocks N low) d z m reached entry exit
 Left N d reached entry exit (Untestable k) = exit ≡ entry
-Left N d reached entry exit (Refused n p) = exit ≡ entry
+Left N d reached entry exit (Refused e) = exit ≡ entry
 
 -- with that done, the answer is the search's reply
 pub record Answered (N : Netlist) (s : Shape) (fault : Fault) (reached : List ℕ) (room : ℕ) (r : Searched) : Type 0 where

@@ -11,7 +11,6 @@ use Rattle.words.proofs.Bits.{digit_zero}
 use Rattle.known.specs.Known.{Known}
 use Rattle.known.specs.Setting.{Shows, Long}
 use Rattle.rows.proofs.Bits.{split, meet}
-use Rattle.known.proofs.Chunks.{known_start}
 use Rattle.stages.specs.Stage.{Stage, OutsOnly}
 use Rattle.outputs.specs.Groups.{Joined}
 use Rattle.groups.specs.Chunks.{ChunkTried, GroupTried}
@@ -23,9 +22,6 @@ module _ (i c o n w g : ℕ) (kinds counts firsts nets order branches sources re
   abbrev pub AllKnown : ℕ → List ℕ → List ℕ → List ℕ → Type 0
   AllKnown q left best pat = (cone : List ℕ) (low : ℕ → ℕ) (rel : ℕ → ℕ → Bool) → Stage i c o n w g kinds counts firsts nets order branches sources cone reach heads readers src outs list input low rel
       → (f : ℕ) → f < 2 * (i + c + n) → Known (Shows i c o kinds counts nets low rel f) g (64 * q) (get_or left₀ f 0) (get_or best₀ f 0) (get_or pat₀ f 0) (get_or left f 0) (get_or best f 0) (get_or pat f 0)
-
-  pub group_start : AllKnown 0 left₀ best₀ pat₀
-  group_start cone low rel S f l = known_start (Shows i c o kinds counts nets low rel f) g (get_or left₀ f 0) (get_or best₀ f 0) (get_or pat₀ f 0)
 
   pub group_step : (q x : ℕ) (left best pat left' best' pat' : List ℕ) → Joined (2 * (i + c + n)) left x
       → ChunkTried i c o n w q (bit_and x g) kinds counts firsts nets order branches sources reach heads readers src outs list input left best pat left' best' pat'

@@ -2,117 +2,85 @@
 // The outputs in groups with the same blocks behind them, each group over the chunks of its patterns.
 ghost use Rattle.std.specs.Prelude.{◌≡◌, ℕ, ◌+◌, ◌*◌, ◌<◌, Bool, List};
 ghost use Rattle.chip.specs.Inner.Tables.{tabled};
-ghost use Rattle.events.specs.Lent.{kinds_of, counts_of, inputs_of, firsts_of, order_of, heads_of, readers_of, sources_of, nets_of, branches_of, slots_of, outs_of, variables_of};
 ghost use Rattle.known.specs.Setting.{GoodRun, Long, Went};
 ghost use Rattle.stages.specs.Stage.{Watch, OutsOnly, Stage};
 ghost use Rattle.patterns.specs.Words.{Store};
 ghost use Rattle.groups.specs.Chunks.{Alone, ChunkStep, ChunkTried, GroupTried};
 
-use chip::{CELLS, FAULTS, PINS};
-use events::{SLOT, Trial};
+use chip::CELLS;
+use events::{ChipTables, GroupTables, Trial};
+use homes::Progress;
 use rows::WORDS;
 
 // Tries the faults that are runs of their own, or looked at without one.
-fn try_alone<'a, 'b, 'c>(
+fn try_alone<'a, 'b>(
     trial: Trial,
-    bytes: [&'a [u8]; 3],
-    tables: [&'a [u16]; 5],
-    pins: [&'c [u16; PINS]; 3],
-    group: [&'b [u16]; 3],
-    reach: &[u64; CELLS],
+    chip: ChipTables<'a>,
+    group: GroupTables<'b>,
     goods: &[u64; WORDS],
     vals: &mut [u64; WORDS],
-    left: &mut [u64; FAULTS],
-    best: &mut [u8; FAULTS],
-    pat: &mut [u32; FAULTS],
+    known: &mut Progress,
 )
-    requires by_index { (cone : List ℕ) × (low : ℕ → ℕ) × (rel : ℕ → ℕ → Bool) × Stage trial.inputs trial.cells trial.outputs trial.pins trial.width trial.at (kinds_of bytes) (counts_of bytes) (firsts_of tables) (nets_of pins) (order_of tables) (branches_of pins) (sources_of tables) cone reach.now (heads_of tables) (readers_of tables) (slots_of group) (outs_of group) (variables_of group) (inputs_of bytes) low rel }
+    requires by_index { (cone : List ℕ) × (low : ℕ → ℕ) × (rel : ℕ → ℕ → Bool) × Stage chip.sizes.inputs chip.sizes.cells chip.sizes.outputs chip.sizes.pins group.width trial.at chip.kinds.now chip.counts.now chip.firsts.now chip.nets.now chip.order.now chip.branches.now chip.sources.now cone chip.reach.now chip.heads.now chip.readers.now group.slots.now group.outs.now group.variables.now chip.inputs.now low rel }
     requires vals_value { vals.old ≡ goods.now }
-    requires good_run { GoodRun trial.cells trial.chunk trial.at (kinds_of bytes) (counts_of bytes) (firsts_of tables) (slots_of group) (order_of tables) reach.now (outs_of group) goods.now }
-    requires long { Long left.old best.old pat.old }
-    ensures went { Went (Alone trial.inputs trial.cells trial.outputs trial.pins (firsts_of tables.entry) (sources_of tables.entry)) (ChunkStep trial.inputs trial.cells trial.outputs trial.pins trial.width trial.chunk trial.at (kinds_of bytes.entry) (counts_of bytes.entry) (firsts_of tables.entry) (nets_of pins.entry) (order_of tables.entry) reach.now (slots_of group.entry) (outs_of group.entry) (variables_of group.entry) (inputs_of bytes.entry) goods.now) left.old best.old pat.old left.new best.new pat.new }
+    requires good_run { GoodRun chip.sizes.cells trial.chunk trial.at chip.kinds.now chip.counts.now chip.firsts.now group.slots.now chip.order.now chip.reach.now group.outs.now goods.now }
+    requires long { Long known.old.left known.old.best known.old.pat }
+    ensures went { Went (Alone chip.entry.sizes.inputs chip.entry.sizes.cells chip.entry.sizes.outputs chip.entry.sizes.pins chip.entry.firsts.now chip.entry.sources.now) (ChunkStep chip.entry.sizes.inputs chip.entry.sizes.cells chip.entry.sizes.outputs chip.entry.sizes.pins group.entry.width trial.chunk trial.at chip.entry.kinds.now chip.entry.counts.now chip.entry.firsts.now chip.entry.nets.now chip.entry.order.now chip.entry.reach.now group.entry.slots.now group.entry.outs.now group.entry.variables.now chip.entry.inputs.now goods.now) known.old.left known.old.best known.old.pat known.new.left known.new.best known.new.pat }
     ensures vals_after { vals.new ≡ goods.now }
 {
-    alone::try_inputs(
-        trial, bytes, tables, group, reach, goods, vals, left, best, pat,
-    );
-    buffers::try_pads(
-        trial, bytes, tables, pins, group, reach, goods, vals, left, best, pat,
-    );
-    alone::try_outs(trial, group, goods, left, best, pat);
+    alone::try_inputs(trial, chip, group, goods, vals, known);
+    buffers::try_pads(trial, chip, group, goods, vals, known);
+    alone::try_outs(trial, chip.sizes, group, goods, known);
 }
 
 // Tries all faults that are open at an output that is asked for.
-fn try_chunk<'a, 'b, 'c>(
+fn try_chunk<'a, 'b>(
     trial: Trial,
-    bytes: [&'a [u8]; 3],
-    tables: [&'a [u16]; 5],
-    pins: [&'c [u16; PINS]; 3],
-    group: [&'b [u16]; 3],
-    reach: &[u64; CELLS],
+    chip: ChipTables<'a>,
+    group: GroupTables<'b>,
     goods: &mut [u64; WORDS],
     vals: &mut [u64; WORDS],
-    left: &mut [u64; FAULTS],
-    best: &mut [u8; FAULTS],
-    pat: &mut [u32; FAULTS],
+    known: &mut Progress,
     groups: &mut [u64; CELLS],
 )
-    requires by_index { (cone : List ℕ) × (low : ℕ → ℕ) × (rel : ℕ → ℕ → Bool) × Stage trial.inputs trial.cells trial.outputs trial.pins trial.width trial.at (kinds_of bytes) (counts_of bytes) (firsts_of tables) (nets_of pins) (order_of tables) (branches_of pins) (sources_of tables) cone reach.now (heads_of tables) (readers_of tables) (slots_of group) (outs_of group) (variables_of group) (inputs_of bytes) low rel }
-    requires chunk_bound { (trial.chunk < 4096) × Store trial.cells goods.old vals.old }
-    requires long { Long left.old best.old pat.old × OutsOnly trial.inputs trial.cells trial.outputs trial.pins left.old × Watch trial.inputs trial.cells (tabled trial.inputs trial.cells trial.outputs (kinds_of bytes) (counts_of bytes) (nets_of pins)) (counts_of bytes) (firsts_of tables) (order_of tables) left.old groups.old }
-    ensures store { Store trial.cells goods.new vals.new }
-    ensures watch { Watch trial.inputs trial.cells (tabled trial.inputs trial.cells trial.outputs (kinds_of bytes.entry) (counts_of bytes.entry) (nets_of pins.entry)) (counts_of bytes.entry) (firsts_of tables.entry) (order_of tables.entry) left.new groups.new }
-    ensures chunk_tried { ChunkTried trial.inputs trial.cells trial.outputs trial.pins trial.width trial.chunk trial.at (kinds_of bytes.entry) (counts_of bytes.entry) (firsts_of tables.entry) (nets_of pins.entry) (order_of tables.entry) (branches_of pins.entry) (sources_of tables.entry) reach.now (heads_of tables.entry) (readers_of tables.entry) (slots_of group.entry) (outs_of group.entry) (variables_of group.entry) (inputs_of bytes.entry) left.old best.old pat.old left.new best.new pat.new }
+    requires by_index { (cone : List ℕ) × (low : ℕ → ℕ) × (rel : ℕ → ℕ → Bool) × Stage chip.sizes.inputs chip.sizes.cells chip.sizes.outputs chip.sizes.pins group.width trial.at chip.kinds.now chip.counts.now chip.firsts.now chip.nets.now chip.order.now chip.branches.now chip.sources.now cone chip.reach.now chip.heads.now chip.readers.now group.slots.now group.outs.now group.variables.now chip.inputs.now low rel }
+    requires chunk_bound { (trial.chunk < 4096) × Store chip.sizes.cells goods.old vals.old }
+    requires long { Long known.old.left known.old.best known.old.pat × OutsOnly chip.sizes.inputs chip.sizes.cells chip.sizes.outputs chip.sizes.pins known.old.left × Watch chip.sizes.inputs chip.sizes.cells (tabled chip.sizes.inputs chip.sizes.cells chip.sizes.outputs chip.kinds.now chip.counts.now chip.nets.now) chip.counts.now chip.firsts.now chip.order.now known.old.left groups.old }
+    ensures store { Store chip.entry.sizes.cells goods.new vals.new }
+    ensures watch { Watch chip.entry.sizes.inputs chip.entry.sizes.cells (tabled chip.entry.sizes.inputs chip.entry.sizes.cells chip.entry.sizes.outputs chip.entry.kinds.now chip.entry.counts.now chip.entry.nets.now) chip.entry.counts.now chip.entry.firsts.now chip.entry.order.now known.new.left groups.new }
+    ensures chunk_tried { ChunkTried chip.entry.sizes.inputs chip.entry.sizes.cells chip.entry.sizes.outputs chip.entry.sizes.pins group.entry.width trial.chunk trial.at chip.entry.kinds.now chip.entry.counts.now chip.entry.firsts.now chip.entry.nets.now chip.entry.order.now chip.entry.branches.now chip.entry.sources.now chip.entry.reach.now chip.entry.heads.now chip.entry.readers.now group.entry.slots.now group.entry.outs.now group.entry.variables.now chip.entry.inputs.now known.old.left known.old.best known.old.pat known.new.left known.new.best known.new.pat }
 {
-    patterns::good_words(trial, bytes, tables, group[SLOT], reach, goods, vals);
-    try_alone(
-        trial, bytes, tables, pins, group, reach, goods, vals, left, best, pat,
-    );
-    places::try_places(
-        trial, bytes, tables, group, reach, goods, vals, left, best, pat, groups,
-    );
+    patterns::good_words(trial, chip, group, goods, vals);
+    try_alone(trial, chip, group, goods, vals, known);
+    places::try_places(trial, chip, group, goods, vals, known, groups);
 }
 
 // Tries all patterns of a group of outputs with `width` blocks behind each, 1,024 at a time from the first on, while some fault is open at one of them.
 // Open: words of the last chunk, further outputs of cells, and entries past the faults: scratch, and tables of 10,368 of which the faults are in use.
-pub fn try_group<'a, 'b, 'c>(
+pub fn try_group<'a, 'b>(
     trial: Trial,
-    bytes: [&'a [u8]; 3],
-    tables: [&'a [u16]; 5],
-    pins: [&'c [u16; PINS]; 3],
-    group: [&'b [u16]; 3],
-    reach: &[u64; CELLS],
+    chip: ChipTables<'a>,
+    group: GroupTables<'b>,
     goods: &mut [u64; WORDS],
     vals: &mut [u64; WORDS],
-    left: &mut [u64; FAULTS],
-    best: &mut [u8; FAULTS],
-    pat: &mut [u32; FAULTS],
+    known: &mut Progress,
     groups: &mut [u64; CELLS],
 )
-    requires by_index { (cone : List ℕ) × (low : ℕ → ℕ) × (rel : ℕ → ℕ → Bool) × Stage trial.inputs trial.cells trial.outputs trial.pins trial.width trial.at (kinds_of bytes) (counts_of bytes) (firsts_of tables) (nets_of pins) (order_of tables) (branches_of pins) (sources_of tables) cone reach.now (heads_of tables) (readers_of tables) (slots_of group) (outs_of group) (variables_of group) (inputs_of bytes) low rel }
-    requires store { Store trial.cells goods.old vals.old }
-    requires long { Long left.old best.old pat.old × OutsOnly trial.inputs trial.cells trial.outputs trial.pins left.old × Watch trial.inputs trial.cells (tabled trial.inputs trial.cells trial.outputs (kinds_of bytes) (counts_of bytes) (nets_of pins)) (counts_of bytes) (firsts_of tables) (order_of tables) left.old groups.old }
-    ensures store_2 { Store trial.cells goods.new vals.new }
-    ensures watch { Watch trial.inputs trial.cells (tabled trial.inputs trial.cells trial.outputs (kinds_of bytes.entry) (counts_of bytes.entry) (nets_of pins.entry)) (counts_of bytes.entry) (firsts_of tables.entry) (order_of tables.entry) left.new groups.new }
-    ensures group_tried { GroupTried trial.inputs trial.cells trial.outputs trial.pins trial.width trial.at (kinds_of bytes.entry) (counts_of bytes.entry) (firsts_of tables.entry) (nets_of pins.entry) (order_of tables.entry) (branches_of pins.entry) (sources_of tables.entry) reach.now (heads_of tables.entry) (readers_of tables.entry) (slots_of group.entry) (outs_of group.entry) (variables_of group.entry) (inputs_of bytes.entry) left.old best.old pat.old left.new best.new pat.new }
+    requires by_index { (cone : List ℕ) × (low : ℕ → ℕ) × (rel : ℕ → ℕ → Bool) × Stage chip.sizes.inputs chip.sizes.cells chip.sizes.outputs chip.sizes.pins group.width trial.at chip.kinds.now chip.counts.now chip.firsts.now chip.nets.now chip.order.now chip.branches.now chip.sources.now cone chip.reach.now chip.heads.now chip.readers.now group.slots.now group.outs.now group.variables.now chip.inputs.now low rel }
+    requires store { Store chip.sizes.cells goods.old vals.old }
+    requires long { Long known.old.left known.old.best known.old.pat × OutsOnly chip.sizes.inputs chip.sizes.cells chip.sizes.outputs chip.sizes.pins known.old.left × Watch chip.sizes.inputs chip.sizes.cells (tabled chip.sizes.inputs chip.sizes.cells chip.sizes.outputs chip.kinds.now chip.counts.now chip.nets.now) chip.counts.now chip.firsts.now chip.order.now known.old.left groups.old }
+    ensures store_2 { Store chip.entry.sizes.cells goods.new vals.new }
+    ensures watch { Watch chip.entry.sizes.inputs chip.entry.sizes.cells (tabled chip.entry.sizes.inputs chip.entry.sizes.cells chip.entry.sizes.outputs chip.entry.kinds.now chip.entry.counts.now chip.entry.nets.now) chip.entry.counts.now chip.entry.firsts.now chip.entry.order.now known.new.left groups.new }
+    ensures group_tried { GroupTried chip.entry.sizes.inputs chip.entry.sizes.cells chip.entry.sizes.outputs chip.entry.sizes.pins group.entry.width trial.at chip.entry.kinds.now chip.entry.counts.now chip.entry.firsts.now chip.entry.nets.now chip.entry.order.now chip.entry.branches.now chip.entry.sources.now chip.entry.reach.now chip.entry.heads.now chip.entry.readers.now group.entry.slots.now group.entry.outs.now group.entry.variables.now chip.entry.inputs.now known.old.left known.old.best known.old.pat known.new.left known.new.best known.new.pat }
 {
-    let i = trial.inputs;
-    let c = trial.cells;
-    let n = trial.pins;
-    let w = trial.width;
-    let total = 1usize << w;
-    let mut q = 0;
-    while 64 * q < total {
-        let u = outputs::left_all(2 * (i + c + n), left) & trial.at;
+    let z = chip.sizes;
+    let words = (1usize << group.width).div_ceil(64);
+    for q in (0..words).step_by(16) {
+        let u = outputs::left_all(2 * (z.inputs + z.cells + z.pins), &known.left) & trial.at;
         if u == 0 {
             return;
         }
-        let mut t = trial;
-        t.chunk = q;
-        t.at = u;
-        try_chunk(
-            t, bytes, tables, pins, group, reach, goods, vals, left, best, pat, groups,
-        );
-        q += 16;
+        let next = Trial { chunk: q, at: u };
+        try_chunk(next, chip, group, goods, vals, known, groups);
     }
 }

@@ -7,7 +7,7 @@ use mathlib.Core.List.{List}
 use native.Mathlib.Omega.{arith}
 use native.Mathlib.Decide.{ℕ_discrete, dec_lt}
 use borrow.Author.Tests.{lt-ltb, le-ltb}
-use lib.ListN.{length, get_or}
+use lib.ListN.{get_or, replicate, get_or-replicate}
 use lib.Bits.{bit_and, bit_or, bit_xor}
 use Rattle.chip.specs.Search.{digit}
 use Rattle.words.proofs.Bits.{digit_zero, digit_or, digit_ones}
@@ -22,12 +22,6 @@ number_low e net pin l = rw (lt-ltb e 2 l) refl
 
 pub number_high : (e net pin : ℕ) → 2 ≤ e → number_of e net pin ≡ 2 * pin + (e - 2)
 number_high e net pin l = rw (le-ltb e 2 l) refl
-
-pub number_few : (e net pin n : ℕ) → net < pin → pin + n ≤ 5184 → e < 2 * n + 2 → number_of e net pin < 10368
-number_few e net pin n a b l = elim (dec_lt e 2) [
-  | yes h ↦ omega (arith, number_low e net pin h)
-  | no g ↦ omega (arith, number_high e net pin (omega arith))
-]
 
 number_one : (d e net pin : ℕ) → net < pin → d ≢ e → number_of d net pin ≢ number_of e net pin
 number_one d e net pin a g q = elim (dec_lt d 2) [
@@ -80,9 +74,6 @@ module _ (lane lane' : ℕ → ℕ → Bool) (same : (z i : ℕ) → i < 1024 �
       }
 
 module _ (kind net pin h a n q u : ℕ) (src outs goods vals left₀ best₀ pat₀ : List ℕ) where
-  pub home_none : length left₀ ≡ 10368 → length best₀ ≡ 10368 → length pat₀ ≡ 10368 → LookedHome 0 kind net pin h a n q u src outs goods vals left₀ best₀ pat₀ left₀ best₀ pat₀
-  home_none ll lb lp = record { long_left = ll; long_best = lb; long_pat = lp; others = λ x g. (refl, refl, refl); entry = λ e l. absurd (omega arith) }
-
   module _ (m : ℕ) (left best pat : List ℕ) (L : LookedHome m kind net pin h a n q u src outs goods vals left₀ best₀ pat₀ left best pat) (np : net < pin) where
     -- the entry of fault m is still that of the start
     fresh : (get_or left (number_of m net pin) 0 ≡ get_or left₀ (number_of m net pin) 0) × (get_or best (number_of m net pin) 0 ≡ get_or best₀ (number_of m net pin) 0) × (get_or pat (number_of m net pin) 0 ≡ get_or pat₀ (number_of m net pin) 0)
@@ -151,11 +142,8 @@ module _ (kind net pin h a n q u : ℕ) (src outs goods vals left₀ best₀ pat
 -- ---- the lanes to flip
 
 module _ (kind net pin h a n u : ℕ) (src left goods : List ℕ) where
-  pub lanes_none : (acc : List ℕ) → length acc ≡ 16 → HomeLanes 0 kind net pin h a n u src left goods acc
-  lanes_none acc l = record { long = l; covers = λ e b. absurd (omega arith) }
-
-  pub lanes_all : (m : ℕ) (acc acc' : List ℕ) → length acc ≡ 16 → Filled 0 16 (λ k. 2 ^ 64 - 1) acc acc' → HomeLanes m kind net pin h a n u src left goods acc'
-  lanes_all m acc acc' l F = record { long = F.long ∙ l; covers = λ e b g k x kl xl w. ap (digit x) (row_at 16 _ acc acc' F k kl) ∙ digit_ones x xl }
+  pub lanes_all : (m : ℕ) → HomeLanes m kind net pin h a n u src left goods (replicate 16 (2 ^ 64 - 1))
+  lanes_all m = record { long = refl; covers = λ e b g k x kl xl w. ap (digit x) (get_or-replicate 16 k _ 0 kl) ∙ digit_ones x xl }
 
   pub lanes_skip : (m f : ℕ) (acc : List ℕ) → HomeLanes m kind net pin h a n u src left goods acc → f ≡ number_of m net pin → bit_and (get_or left f 0) u ≡ 0
       → HomeLanes (m + 1) kind net pin h a n u src left goods acc

@@ -1,6 +1,6 @@
 -- The faults at one cell, its home: fault e < 2 is the cell's net stuck at e, fault 2 + 2 * i + v its pin i stuck at v.
 -- Slot 1040 holds zeros and slot 1041 ones. Lane i of 16 words is bit i % 64 of word i / 64.
-use Rattle.std.specs.Prelude.{ℕ, ◌+◌, ◌*◌, ◌-◌, ◌/◌, ◌%◌, ◌^◌, ◌≤◌, ◌<◌, ◌≡◌, ◌⊎◌, ◌≢◌, Bool, true, false, cond, List, length, get_or, eqb, ltb}
+use Rattle.std.specs.Prelude.{ℕ, Option, MatchOption, ◌+◌, ◌*◌, ◌-◌, ◌/◌, ◌%◌, ◌^◌, ◌≤◌, ◌<◌, ◌≡◌, ◌⊎◌, ◌≢◌, Bool, true, false, cond, List, length, get_or, eqb, ltb}
 use Rattle.std.specs.Int.Bits.{bit_and, bit_xor}
 use Rattle.chip.specs.Netlist.{takes}
 use Rattle.chip.specs.Search.{digit}
@@ -37,18 +37,23 @@ pub record Home (kind : ℕ) (src : List ℕ) (size a n : ℕ) : Type 0 where
 abbrev pub lane_at : List ℕ → ℕ → ℕ → List ℕ → List ℕ → ℕ → Bool
 lane_at t s e goods vals i = digit (i % 64) (bit_and (get_or t (i / 64) 0) (bit_xor (get_or goods (16 * s + i / 64) 0) (get_or vals (16 * e + i / 64) 0)))
 
--- r is the first of 1,024 lanes that is set, or 1,024
-pub record FirstLane (lane : ℕ → Bool) (r : ℕ) : Type 0 where
-  pub upto : r ≤ 1024
+-- r is the first of 1,024 lanes that is set
+pub record IsFirstLane (lane : ℕ → Bool) (r : ℕ) : Type 0 where
+  pub low : r < 1024
   pub none : (i : ℕ) → i < r → lane i ≡ false
-  pub found : r < 1024 → lane r ≡ true
+  pub found : lane r ≡ true
 
--- r is the lowest bit of u from `at` on that is set, or 64 or more
-pub record NextBit (u at r : ℕ) : Type 0 where
-  pub low : at ≤ r
-  pub few : r ≤ at + 64
-  pub none : (t : ℕ) → at ≤ t → t < r → digit t u ≡ false
-  pub found : r < at + 64 → (digit r u ≡ true) × (r < 64)
+-- z is the lowest output of u, and rest has the others
+pub record LowestOut (u z rest : ℕ) : Type 0 where
+  pub low : z < 64
+  pub mine : digit z u ≡ true
+  pub below : (y : ℕ) → y < z → digit y u ≡ false
+  pub gone : digit z rest ≡ false
+  pub others : (y : ℕ) → y ≢ z → digit y rest ≡ digit y u
+
+-- the lowest output of u is taken out, if there is one
+abbrev pub TakesOut : ℕ → Option ℕ → ℕ → Type 0
+TakesOut u r rest = MatchOption r (u ≡ 0) (λ z. LowestOut u z rest)
 
 -- outputs of u that are not in r show no difference
 pub record SeenAt (u : ℕ) (outs goods vals : List ℕ) (r : ℕ) : Type 0 where

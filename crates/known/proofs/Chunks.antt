@@ -1,6 +1,6 @@
 -- One chunk of 1,024 patterns more.
 use Prim.Native.Nat.{ℕ, zero, suc, ◌+◌, ◌-◌, ◌*◌, ◌/◌, ◌%◌, ◌^◌, ◌<◌}
-use mathlib.Core.Path.{◌≡◌, refl, sym, ap, ◌∙◌}
+use mathlib.Core.Path.{◌≡◌, sym, ap, ◌∙◌}
 use mathlib.Core.Logic.{inl, inr}
 use mathlib.Core.Bool.{Bool, true, false, false≢true}
 use native.Mathlib.Nat.{pow-suc}
@@ -32,9 +32,6 @@ ones_below (suc k) (suc z) h =
     ap (digit z) half ∙ ones_below k z (omega arith)
 
 module _ (Shows : ℕ → ℕ → Type 0) (g left₀ best₀ pat₀ : ℕ) where
-  pub known_start : Known Shows g 0 left₀ best₀ pat₀ left₀ best₀ pat₀
-  known_start = inl (record { left_same = refl; best_same = refl; pat_same = refl; none = λ z m a b c. absurd (omega arith) })
-
   -- The chunks from q on: u holds the outputs of the group that are left, and lane z tells the patterns there that show the fault.
   module _ (q u left best pat left' best' pat' : ℕ) (lane : ℕ → ℕ → Bool)
       (mine : (z : ℕ) → z < 64 → digit z (bit_and left u) ≡ true → digit z g ≡ true) (all : (z : ℕ) → z < 64 → digit z (bit_and left g) ≡ true → digit z u ≡ true)

@@ -10,8 +10,6 @@ use lib.ListN.{get_or}
 use lib.Bits.{bit_and, bit_xor}
 use Rattle.chip.specs.Search.{digit}
 use Rattle.words.proofs.Bits.{digit_and, digit_xor, digit_zero, digit_ones}
-use Rattle.rows.specs.Rows.{Filled}
-use Rattle.rows.proofs.Fill.{row_at}
 use Rattle.rows.proofs.Bits.{split}
 use Rattle.homes.specs.Homes.{lane_at, Looked}
 use Rattle.homes.proofs.Looking.{looked_same}
@@ -20,10 +18,10 @@ use Rattle.known.proofs.Advance.{advance_looked}
 
 -- ---- a look in all lanes
 
-pub looked_runs : (f q u : ℕ) (blank t outs ends goods vals left best pat left' best' pat' : List ℕ) → Filled 0 16 (λ k. 2 ^ 64 - 1) blank t
+pub looked_runs : (f q u : ℕ) (t outs ends goods vals left best pat left' best' pat' : List ℕ) → ((k : ℕ) → k < 16 → get_or t k 0 ≡ 2 ^ 64 - 1)
     → Looked f q u (λ z. lane_at t (get_or outs z 0) (get_or ends z 0) goods vals) left best pat left' best' pat'
     → Looked f q u (λ z. lane_of_run (get_or outs z 0) (get_or ends z 0) goods vals) left best pat left' best' pat'
-looked_runs f q u blank t outs ends goods vals left best pat left' best' pat' F L = looked_same _ _ same f q u left best pat left' best' pat' L
+looked_runs f q u t outs ends goods vals left best pat left' best' pat' F L = looked_same _ _ same f q u left best pat left' best' pat' L
   where
     with_one : (a b : Bool) → a ≡ true → (a && b) ≡ b
     with_one true b e = refl
@@ -34,7 +32,7 @@ looked_runs f q u blank t outs ends goods vals left best pat left' best' pat' F 
         let a : ℕ = get_or goods (16 * get_or outs z 0 + x / 64) 0 in
         let b : ℕ = get_or vals (16 * get_or ends z 0 + x / 64) 0 in
         digit_and (get_or t (x / 64) 0) (bit_xor a b) (x % 64)
-        ∙ with_one (digit (x % 64) (get_or t (x / 64) 0)) (digit (x % 64) (bit_xor a b)) (ap (digit (x % 64)) (row_at 16 _ blank t F (x / 64) (omega arith)) ∙ digit_ones (x % 64) (omega arith))
+        ∙ with_one (digit (x % 64) (get_or t (x / 64) 0)) (digit (x % 64) (bit_xor a b)) (ap (digit (x % 64)) (F (x / 64) (omega arith)) ∙ digit_ones (x % 64) (omega arith))
         ∙ digit_xor a b (x % 64)
 
 -- a fault that is left to no output of u is not looked for
@@ -79,9 +77,6 @@ looked_advance Shown f q g lane left best pat left' best' pat' L asked =
 -- ---- some faults, and then others
 
 module _ (Step : ℕ → ℕ → ℕ → ℕ → ℕ → ℕ → ℕ → Type 0) (left₀ best₀ pat₀ : List ℕ) where
-  pub went_none : (A : ℕ → Type 0) → Long left₀ best₀ pat₀ → ((f : ℕ) → ¬ A f) → Went A Step left₀ best₀ pat₀ left₀ best₀ pat₀
-  went_none A L none = record { kept = record { long = L; others = λ f g. (refl, refl, refl) }; step = λ f a. absurd (none f a) }
-
   pub went_both : (A B C : ℕ → Type 0) (left best pat left' best' pat' : List ℕ) → Went A Step left₀ best₀ pat₀ left best pat → Went B Step left best pat left' best' pat'
       → ((f : ℕ) → A f → ¬ B f) → ((f : ℕ) → C f → A f ⊎ B f) → ((f : ℕ) → A f ⊎ B f → C f) → Went C Step left₀ best₀ pat₀ left' best' pat'
   went_both A B C left best pat left' best' pat' P Q apart split join =

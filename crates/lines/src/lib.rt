@@ -1,171 +1,150 @@
 #![tactic(auto)]
-// Lines of text on standard output, through a buffer, `line`: its first `used` bytes wait to be written. Every function
-// leaves `used` within the buffer.
-ghost use Rattle.std.specs.Prelude.{◌+◌, ◌≤◌, ◌<◌, ◌≡◌, length};
+// Text on standard output, through a buffer.
+ghost use Rattle.std.specs.Prelude.{ℕ, ◌+◌, ◌≤◌, ◌≡◌, length};
+
+use std::fmt;
+use std::fmt::Write;
+use std::marker::Model;
 
 // What stands in memory of a line, a file or a lent buffer.
 pub const BUFFER: usize = 65536;
 
 pub type Buffer = [u8; BUFFER];
 
-// Writes the bytes that wait. None waits afterwards.
-pub fn finish(line: &[u8], used: &mut usize)
-    ensures { used.new ≡ 0 }
-{
-    let n = *used;
-    *used = 0;
-    if n < line.len() {
-        io::write_all(1, &line[..n]);
-    } else {
-        io::write_all(1, line);
+const DIGITS: &[u8; 16] = b"0123456789abcdef";
+
+// Text on its way to standard output: the first `used` bytes of the buffer wait to be written. A contract sees how many wait.
+#[derive(Drop)]
+pub struct Line {
+    bytes: Buffer,
+    used: usize,
+}
+
+impl Model for Line {
+    ghost Value = { ℕ };
+
+    ghost view = { λ line. line.used };
+
+    ghost invariant = { λ line. line.used ≤ 65536 };
+}
+
+impl Line {
+    // A buffer in which nothing waits.
+    pub fn new() -> Line
+        ensures { result ≡ 0 }
+    {
+        Line {
+            bytes: io::large_buffer(),
+            used: 0,
+        }
+    }
+
+    // Writes the bytes that wait. None waits afterwards.
+    pub fn flush(&mut self)
+        ensures { self.new ≡ 0 }
+    {
+        io::write_all(1, &self.bytes[..self.used]);
+        self.used = 0;
+    }
+
+    // What `write!` calls. A line takes all that comes, so there is no error to hand on.
+    // Open: the bytes of the buffer and how many wait: what is printed is compared, and what a write does is outside the program.
+    pub fn write_fmt<D: fmt::Display + Drop>(&mut self, value: D) {
+        let _ = self.write(value);
+    }
+
+    // A blank and some bytes in hex, `-` for none.
+    // Open: the bytes of the buffer and how many wait: what is printed is compared, and what a write does is outside the program.
+    pub fn hex(&mut self, bytes: &[u8]) {
+        self.blank(bytes.len());
+        self.digits(bytes);
+    }
+
+    // A blank and some numbers of two bytes in hex, low byte first, `-` for none.
+    // Open: the bytes of the buffer and how many wait: what is printed is compared, and what a write does is outside the program.
+    pub fn hex_words(&mut self, words: &[u16]) {
+        self.blank(words.len());
+        for word in words {
+            self.digits(&word.to_le_bytes());
+        }
+    }
+
+    // The n clocks of a play in order, a blank and i digits each. There is room for all before the first is written.
+    // Open: the bytes of the buffer and how many wait: what is printed is compared, and what a write does is outside the program.
+    pub fn clocks(&mut self, play: &[u8], i: usize, n: usize)
+        requires { (i ≤ 64) × (n ≤ 256) × (16384 ≤ length play.now) }
+    {
+        self.make_room(n * (i + 1));
+        let end = self.used + n * (i + 1);
+        let clocks = &mut self.bytes[self.used..end];
+        for t in 0..n {
+            put_clock(
+                &mut clocks[t * (i + 1)..(t + 1) * (i + 1)],
+                &play[t * i..(t + 1) * i],
+            );
+        }
+        self.used = end;
+    }
+
+    // A blank, and `-` where n numbers are none.
+    fn blank(&mut self, n: usize) {
+        self.push(b" ");
+        if n == 0 {
+            self.push(b"-");
+        }
+    }
+
+    // Two digits for each of some bytes.
+    fn digits(&mut self, bytes: &[u8]) {
+        for byte in bytes {
+            self.push(&[
+                DIGITS[usize::from(byte / 16)],
+                DIGITS[usize::from(byte % 16)],
+            ]);
+        }
+    }
+
+    // Puts some bytes behind those that wait.
+    fn push(&mut self, bytes: &[u8])
+        requires { length bytes.now ≤ 65536 }
+    {
+        self.make_room(bytes.len());
+        let end = self.used + bytes.len();
+        self.bytes[self.used..end].copy_from_slice(bytes);
+        self.used = end;
+    }
+
+    // Room for n bytes more: those that wait are written where there is less.
+    fn make_room(&mut self, n: usize)
+        requires { n ≤ 65536 }
+        ensures { self.new + n ≤ 65536 }
+    {
+        if n > BUFFER - self.used {
+            self.flush();
+        }
     }
 }
 
-// Room for n bytes: a buffer with less is written.
-fn room(line: &Buffer, used: &mut usize, n: usize)
-    requires { n ≤ 65536 }
-    ensures { used.new + n ≤ 65536 }
-{
-    if *used > 65536 - n {
-        finish(line, used);
+impl fmt::Write for Line {
+    // What is longer than the buffer is written at once.
+    fn write_str(&mut self, text: &str) -> fmt::Result {
+        let bytes = text.as_bytes();
+        if bytes.len() > BUFFER {
+            self.flush();
+            io::write_all(1, bytes);
+        } else {
+            self.push(bytes);
+        }
+        Ok(())
     }
 }
 
-fn byte(line: &mut Buffer, used: &mut usize, b: u8)
-    ensures { used.new ≤ 65536 }
+// A blank and a digit for each value of a clock.
+fn put_clock(clock: &mut [u8], values: &[u8])
+    requires { length clock.old ≡ 1 + length values.now }
 {
-    room(line, used, 1);
-    let i = *used;
-    line[i] = b;
-    *used = i + 1;
-}
-
-fn digit(d: u8) -> u8
-    requires { d < 16 }
-{
-    if d < 10 { 48 + d } else { 87 + d }
-}
-
-// A byte in two digits.
-fn pair(line: &mut Buffer, used: &mut usize, b: u8)
-    ensures { used.new ≤ 65536 }
-{
-    byte(line, used, digit(b / 16));
-    byte(line, used, digit(b % 16));
-}
-
-fn put(line: &mut Buffer, used: &mut usize, b: u8, hex: bool)
-    ensures { used.new ≤ 65536 }
-{
-    if hex {
-        pair(line, used, b);
-    } else {
-        byte(line, used, b);
-    }
-}
-
-// The first n of some bytes, as they are or in hex.
-fn run(line: &mut Buffer, used: &mut usize, bytes: &[u8], n: usize, hex: bool)
-    requires { n ≤ length bytes.now }
-    ensures { used.new ≤ 65536 }
-{
-    room(line, used, 1);
-    for i in 0..n {
-        put(line, used, bytes[i], hex);
-    }
-}
-
-// Open: the bytes of the buffer and how many wait: what is printed is compared, and what a write does is outside the program.
-pub fn text(line: &mut Buffer, used: &mut usize, bytes: &[u8])
-    ensures { used.new ≤ 65536 }
-{
-    run(line, used, bytes, bytes.len(), false);
-}
-
-// A name and a number in decimal.
-// Open: the bytes of the buffer and how many wait: what is printed is compared, and what a write does is outside the program.
-pub fn field(line: &mut Buffer, used: &mut usize, name: &[u8], n: usize)
-    ensures { used.new ≤ 65536 }
-{
-    text(line, used, name);
-    let mut digits = [0u8; 20];
-    let k = io::decimal(n as u64, &mut digits);
-    text(line, used, &digits[..k]);
-}
-
-// A blank and i digits at a place of the buffer: the bytes from a place on, each 0 or 1.
-fn clock(line: &mut Buffer, at: usize, play: &[u8], from: usize, i: usize)
-    requires { (at + i < 65536) × (from + i ≤ length play.now) × (from ≤ 65536) }
-{
-    line[at] = b' ';
-    for x in 0..i {
-        line[at + 1 + x] = 48 + play[from + x] % 2;
-    }
-}
-
-// The n clocks of a play in order, a blank and i digits each. There is room for all before the first is written.
-// Open: the bytes of the buffer and how many wait: what is printed is compared, and what a write does is outside the program.
-pub fn clocks(line: &mut Buffer, used: &mut usize, play: &[u8], i: usize, n: usize)
-    requires { (i ≤ 64) × (n ≤ 256) × (16384 ≤ length play.now) }
-    ensures { used.new ≤ 65536 }
-{
-    room(line, used, n * (i + 1));
-    let mut at = *used;
-    let mut from = 0;
-    let mut left = n;
-    while 0 < left {
-        clock(line, at, play, from, i);
-        at += i + 1;
-        from += i;
-        left -= 1;
-    }
-    *used = at;
-}
-
-// Open: the bytes of the buffer and how many wait: what is printed is compared, and what a write does is outside the program.
-pub fn refused(line: &mut Buffer, used: &mut usize, number: u8, place: usize)
-    ensures { used.new ≤ 65536 }
-{
-    field(line, used, b"refused ", number as usize);
-    field(line, used, b" at ", place);
-}
-
-// A blank, and `-` where n entries are none.
-fn blank(line: &mut Buffer, used: &mut usize, n: usize)
-    ensures { used.new ≤ 65536 }
-{
-    text(line, used, b" ");
-    if n == 0 {
-        byte(line, used, b'-');
-    }
-}
-
-// A blank and the first n of some bytes in hex, `-` for none.
-// Open: the bytes of the buffer and how many wait: what is printed is compared, and what a write does is outside the program.
-pub fn hex(line: &mut Buffer, used: &mut usize, bytes: &[u8], n: usize)
-    requires { n ≤ length bytes.now }
-    ensures { used.new ≤ 65536 }
-{
-    blank(line, used, n);
-    run(line, used, bytes, n, true);
-}
-
-// A number of two bytes, low byte first.
-fn word(line: &mut Buffer, used: &mut usize, w: u16)
-    ensures { used.new ≤ 65536 }
-{
-    pair(line, used, (w % 256) as u8);
-    pair(line, used, (w / 256) as u8);
-}
-
-// A blank and the first n of some numbers of two bytes in hex, `-` for none.
-// Open: the bytes of the buffer and how many wait: what is printed is compared, and what a write does is outside the program.
-pub fn hex_words(line: &mut Buffer, used: &mut usize, words: &[u16], n: usize)
-    requires { n ≤ length words.now }
-    ensures { used.new ≤ 65536 }
-{
-    blank(line, used, n);
-    for i in 0..n {
-        word(line, used, words[i]);
+    clock[0] = b' ';
+    for x in 0..values.len() {
+        clock[1 + x] = b'0' + values[x] % 2;
     }
 }

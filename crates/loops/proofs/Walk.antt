@@ -19,19 +19,8 @@ use Rattle.order.proofs.Order.{fed_input, fed_place, fed_true, fed_false, pin_of
 use Rattle.loops.specs.Loops.{OnLoop}
 use Rattle.loops.specs.Walk.{Followed, Named, Walked}
 
--- Following a cell's pins begins with none,
-pub follow_start : {i c : ℕ} {firsts nets : List ℕ} {j : ℕ} {list places : List ℕ} {n from : ℕ} → Listed c list places n → from ≡ get_or firsts j 0 → Followed i c firsts nets j list n list places n from
-follow_start L e =
-    record {
-      listed = L;
-      more = omega arith;
-      kept = λ k l. refl;
-      drives = λ k a b. absurd (omega arith);
-      named = λ p a b. absurd (omega arith);
-    }
-
 module _ {i c : ℕ} {firsts nets : List ℕ} {j : ℕ} {list : List ℕ} {before : ℕ} {list' places : List ℕ} {n to : ℕ} (F : Followed i c firsts nets j list before list' places n to) where
-  -- goes on past a pin that names an input or a cell on the list,
+  -- Following a cell's pins goes on past a pin that names an input or a cell on the list,
   pub follow_kept : fed i places (get_or nets to 0) ≡ true → Followed i c firsts nets j list before list' places n (to + 1)
   follow_kept e =
       record {
@@ -83,17 +72,6 @@ module _ {i c : ℕ} {firsts nets : List ℕ} {j : ℕ} {list : List ℕ} {befor
           | no g ↦ fed_place i m (set places h (n + 1)) b (rw (other F.listed W.few_cells h low un.1 (m - i) g) d)
         ]
       ]
-
-  -- What holds of the pins up to one holds of those before.
-  pub follow_done : {end : ℕ} → end ≤ to → Followed i c firsts nets j list before list' places n end
-  follow_done l =
-      record {
-        listed = F.listed;
-        more = F.more;
-        kept = F.kept;
-        drives = F.drives;
-        named = λ p a b. F.named p a (omega arith);
-      }
 
 -- A cell stays on a list that goes on.
 stays_fed : {i c : ℕ} {firsts nets : List ℕ} {j : ℕ} {list places list' places' : List ℕ} {n n' to : ℕ} → Listed c list places n → Followed i c firsts nets j list n list' places' n' to

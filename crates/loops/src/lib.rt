@@ -8,7 +8,7 @@ ghost use Rattle.chip.specs.Refusals.{When9};
 ghost use Rattle.loops.specs.Loops.{OnLoop};
 ghost use Rattle.loops.specs.Walk.{Followed};
 
-use chip::{CELLS, Firsts, Nets, wide};
+use chip::{CELLS, Firsts, Nets};
 use order::is_fed;
 
 // Puts the cells that drive the pins of cell j on the list, each once. The answer is how many are on it then.
@@ -27,23 +27,21 @@ fn follow(
     requires listed { Listed c list.old places.old before }
     ensures { Followed i c firsts.now nets.now j list.old before list.new places.new result (get_or firsts.now (j + 1) 0) }
 {
-    let from = wide(firsts[j]);
-    let to = wide(firsts[j + 1]);
     let mut n = before;
-    for p in from..to {
-        let net = wide(nets[p]);
-        if is_fed(i, places, net) {
-            continue;
+    for p in usize::from(firsts[j])..usize::from(firsts[j + 1]) {
+        let net = usize::from(nets[p]);
+        if !is_fed(i, places, net) {
+            let h = net - i;
+            list[n] = h as u16;
+            n += 1;
+            places[h] = n as u16;
         }
-        let h = net - i;
-        list[n] = h as u16;
-        places[h] = (n + 1) as u16;
-        n += 1;
     }
     n
 }
 
-// Whether a cell's net reaches itself: the cells that feed it are listed, and the cell may be one of them.
+// Whether a cell's net reaches itself: the cells that feed it are listed, and the cell may be one of them. The list grows while
+// it is walked, so its index is counted by hand.
 fn on_loop(i: usize, c: usize, firsts: &Firsts, nets: &Nets, own: usize) -> bool
     requires wired { Wired i c firsts.now nets.now }
     requires own_lt_c { own < c }
@@ -54,7 +52,7 @@ fn on_loop(i: usize, c: usize, firsts: &Firsts, nets: &Nets, own: usize) -> bool
     let mut n = follow(i, c, firsts, nets, own, &mut list, &mut places, 0);
     let mut k = 0;
     while k < n {
-        let j = wide(list[k]);
+        let j = usize::from(list[k]);
         n = follow(i, c, firsts, nets, j, &mut list, &mut places, n);
         k += 1;
     }

@@ -21,9 +21,6 @@ use Rattle.outputs.specs.Sites.{Widths, size_of}
 
 -- Nothing hit at the outputs below z, after k tries: one output more, and the first hit.
 module _ (size : ℕ → ℕ) (Hit : ℕ → ℕ → Type 0) where
-  none_start : NoHit 0 size Hit 0
-  none_start = record { none = λ y m l h t. omega arith; tries = refl }
-
   none_more : (z k n : ℕ) → n ≡ size z → ((m : ℕ) → m < size z → ¬ Hit z m) → NoHit z size Hit k → NoHit (z + 1) size Hit (k + n)
   none_more z k n e none h =
       record {
@@ -91,9 +88,6 @@ Counts o outs best pat widths z k =
     (N : Netlist) (b : ℕ) (reached : List ℕ) (low : ℕ → ℕ) (fault : Fault) (left : ℕ) → o ≡ N.outs → b ≡ (blocks N low).count → Widths o b reached widths
     → Sofar (Tried N (blocks N low) (stuck fault) (rel_of reached)) (size_of b reached) 0 outs left best pat
     → NoHit z (patterns (blocks N low) (out_of outs) (rel_of reached)) (Tried N (blocks N low) (stuck fault) (rel_of reached)) k
-
-pub counts_start : (o outs best pat : ℕ) (widths : List ℕ) → Counts o outs best pat widths 0 0
-counts_start o outs best pat widths N b reached low fault left e c W S = none_start _ _
 
 pub counts_skip : (o outs best pat : ℕ) (widths : List ℕ) (z k : ℕ) → out_of outs z ≡ false → Counts o outs best pat widths z k → Counts o outs best pat widths (z + 1) k
 counts_skip o outs best pat widths z k d h N b reached low fault left e c W S = walk_skip N (stuck fault) outs reached b low c z k d (h N b reached low fault left e c W S)

@@ -1,5 +1,5 @@
 -- The outputs of each site, the widths and the outputs that a fault is looked for at, one entry at a time.
-use Prim.Native.Nat.{ℕ, ◌+◌, ◌-◌, ◌/◌, ◌^◌, ◌≤◌, ◌<◌}
+use Prim.Native.Nat.{ℕ, ◌+◌, ◌-◌, ◌^◌, ◌<◌}
 use mathlib.Core.Path.{◌≡◌, sym, ap, ◌∙◌, subst}
 use mathlib.Core.Logic.{◌⊎◌, ◌≢◌, inl, inr}
 use mathlib.Core.Bool.{cond, false≢true}
@@ -9,7 +9,7 @@ use native.Mathlib.Decide.{ℕ_discrete, dec_lt}
 use borrow.Author.Tests.{eq-eqb, lt-ltb, le-ltb, eqb-true}
 use lib.ListN.{length, get_or, set, length-set}
 use lib.Seq.{get_or-set_same, get_or-set_other}
-use lib.Bits.{bit_and, bit_or}
+use lib.Bits.{bit_or}
 use Rattle.chip.specs.Netlist.{Netlist, all_pins}
 use Rattle.chip.specs.Class.{Reach}
 use Rattle.chip.specs.Search.{digit, SiteReaches}
@@ -18,9 +18,8 @@ use Rattle.chip.proofs.Basics.{reach_in}
 use Rattle.words.proofs.Bits.{digit_zero, digit_one}
 use Rattle.levels.specs.Levels.{Mask, ReachMasks}
 use Rattle.levels.proofs.Masks.{mask_same, mask_zero, mask_or}
-use Rattle.walk.specs.Walk.{width_of}
 use Rattle.rows.proofs.Bits.{bit_l, bit_r, bit_either}
-use Rattle.outputs.specs.Sites.{SiteMasks, Widths, WideWord, Started}
+use Rattle.outputs.specs.Sites.{SiteMasks, WideWord}
 
 -- ---- the sites
 
@@ -95,17 +94,7 @@ sites_all N cone sites l M S =
       ];
     }
 
--- ---- the widths
-
-pub widths_more : (k b : ℕ) (reached widths : List ℕ) (v : ℕ) → k < 64 → Widths k b reached widths → v ≡ width_of b reached k → Widths (k + 1) b reached (set widths k v)
-widths_more k b reached widths v l W e =
-    record {
-      long = simp length-set W.long;
-      at = λ z h. elim (ℕ_discrete z k) [
-        | yes q ↦ rw q (get_or-set_same widths k v 0 (omega (arith, W.long)) ∙ e)
-        | no g ↦ get_or-set_other widths k z v 0 g ∙ W.at z (omega arith)
-      ];
-    }
+-- ---- the wide ones
 
 pub wide_none : (widths : List ℕ) → WideWord 0 widths 0
 wide_none widths = record { wide = λ z d. absurd (false≢true (sym (digit_zero z) ∙ d)); all = λ z l. absurd (omega arith) }
@@ -131,42 +120,3 @@ wide_more k widths r v e W h =
         | no g ↦ bit_l r v z (W.all z (omega arith) b)
       ];
     }
-
--- ---- the outputs to look at
-
-pub started_none : (from wides : ℕ) (sites left : List ℕ) → length left ≡ 10368 → ((f : ℕ) → get_or left f 0 ≡ 0) → Started from from wides sites left
-started_none from wides sites left l z =
-    record { long = l; narrow = λ f a b. absurd (omega arith); refused = λ f a b. absurd (omega arith); before = λ f _. z f; after = λ f _. z f }
-
-module _ (from k wides : ℕ) (sites left : List ℕ) (l : from ≤ k) (S : Started from k wides sites left) where
-  pub started_skip : bit_and (get_or sites (k / 2) 0) wides ≢ 0 → Started from (k + 1) wides sites left
-  started_skip g =
-      record {
-        long = S.long;
-        narrow = λ f a b e. elim (ℕ_discrete f k) [
-          | yes q ↦ absurd (g (rw q at e))
-          | no n ↦ S.narrow f a (omega arith) e
-        ];
-        refused = λ f a b e. elim (dec_lt f k) [ yes y ↦ S.refused f a y e | no n ↦ S.after f (omega arith) ];
-        before = S.before;
-        after = λ f a. S.after f (omega arith);
-      }
-
-  pub started_more : k < 10368 → bit_and (get_or sites (k / 2) 0) wides ≡ 0 → Started from (k + 1) wides sites (set left k (get_or sites (k / 2) 0))
-  started_more h z =
-      record {
-        long = simp length-set S.long;
-        narrow = λ f a b e. elim (ℕ_discrete f k) [
-          | yes q ↦ rw q (get_or-set_same left k (get_or sites (k / 2) 0) 0 (omega (arith, S.long)))
-          | no n ↦ old f n ∙ S.narrow f a (omega arith) e
-        ];
-        refused = λ f a b e. elim (ℕ_discrete f k) [
-          | yes q ↦ absurd ((rw q at e) z)
-          | no n ↦ old f n ∙ S.refused f a (omega arith) e
-        ];
-        before = λ f a. old f (λ q. omega arith) ∙ S.before f a;
-        after = λ f a. old f (λ q. omega arith) ∙ S.after f (omega arith);
-      }
-    where
-      old : (f : ℕ) → f ≢ k → get_or (set left k (get_or sites (k / 2) 0)) f 0 ≡ get_or left f 0
-      old f n = get_or-set_other left k f (get_or sites (k / 2) 0) 0 n

@@ -1,22 +1,25 @@
 -- Words of outputs joined and parted, and the outputs' slots, one step at a time.
-use Prim.Native.Nat.{ℕ, ◌+◌, ◌-◌, ◌^◌, ◌<◌}
+use Prim.Native.Nat.{ℕ, zero, suc, ◌≤◌, ◌+◌, ◌-◌, ◌^◌, ◌<◌}
 use mathlib.Core.Path.{◌≡◌, refl, sym, ap, ◌∙◌}
 use mathlib.Core.Logic.{inl, inr}
 use mathlib.Core.Bool.{Bool, true, false, not, false≢true}
 use mathlib.Core.List.{List}
 use native.Mathlib.Omega.{arith}
 use native.Mathlib.Decide.{ℕ_discrete}
-use lib.ListN.{get_or}
+use lib.ListN.{length, get_or, take}
+use native.Mathlib.Numerals.{add-one}
+use Rattle.std.specs.List.{fold}
+use Rattle.std.proofs.lemmas.List.Sums.{fold_more}
 use lib.Bits.{bit_and, bit_or}
 use Rattle.chip.specs.Search.{digit}
 use Rattle.words.proofs.Bits.{digit_zero, digit_ones, digit_turned, not_turns}
 use Rattle.rows.proofs.Bits.{split, meet, bit_l, bit_r, bit_either}
 use Rattle.outputs.specs.Groups.{Joined, Alike, Parted}
 
-pub joined_none : (left : List ℕ) → Joined 0 left 0
+joined_none : (left : List ℕ) → Joined 0 left 0
 joined_none left = record { holds = λ f z l. absurd (omega arith); only = λ z d. absurd (false≢true (sym (digit_zero z) ∙ d)) }
 
-pub joined_more : (n : ℕ) (left : List ℕ) (x : ℕ) → Joined n left x → Joined (n + 1) left (bit_or x (get_or left n 0))
+joined_more : (n : ℕ) (left : List ℕ) (x : ℕ) → Joined n left x → Joined (n + 1) left (bit_or x (get_or left n 0))
 joined_more n left x J =
     record {
       holds = λ f z l d. elim (ℕ_discrete f n) [
@@ -28,6 +31,10 @@ joined_more n left x J =
         | inr a ↦ (n, omega arith, a)
       ];
     }
+
+pub joined_fold : (n : ℕ) (left : List ℕ) → n ≤ length left → Joined n left (fold bit_or 0 (take n left))
+joined_fold zero left l = joined_none left
+joined_fold (suc n) left l = rw (← add-one n, fold_more bit_or 0 left n 0 (omega arith)) (joined_more n left (fold bit_or 0 (take n left)) (joined_fold n left (omega arith)))
 
 -- output z is in the word
 pub parted_in : (g word z : ℕ) → digit z word ≡ true → Parted g word z (bit_and g word)
@@ -56,13 +63,3 @@ parted_out g word z wl zl e =
 
 pub alike_none : (z : ℕ) (reached : List ℕ) → z < 64 → Alike 0 z reached (2 ^ 64 - 1)
 alike_none z reached l = record { own = digit_ones z l; same = λ y k yl d h. absurd (omega arith) }
-
-pub alike_more : (n z : ℕ) (reached : List ℕ) (g r : ℕ) → Alike n z reached g → Parted g (get_or reached n 0) z r → Alike (n + 1) z reached r
-alike_more n z reached g r A P =
-    record {
-      own = P.own A.own;
-      same = λ y k yl d h. elim (ℕ_discrete k n) [
-        | yes e ↦ rw e (P.within y yl d).1
-        | no f ↦ A.same y k yl (P.within y yl d).0 (omega arith)
-      ];
-    }

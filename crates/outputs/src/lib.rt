@@ -13,7 +13,7 @@ ghost use Rattle.walk.specs.Walk.{out_of, width_of, TooWide, WalkIs};
 ghost use Rattle.outputs.specs.Sites.{SiteMasks, Widths, WideWord, Started, size_of};
 ghost use Rattle.outputs.specs.Groups.{Sofar, Joined, Alike, Parted};
 
-use chip::{Nets, OutputWidths, PinWords, Reached, wide};
+use chip::{Nets, OutputWidths, PinWords, Reached};
 use walk::Walk;
 
 // The outputs that each site reaches: a pin those of its cone, a net those of the pins that name it.
@@ -24,8 +24,7 @@ pub fn site_masks(base: usize, n: usize, nets: &Nets, cone: &PinWords, sites: &m
     ensures { (N : Netlist) → n ≡ all_pins N → base ≡ N.inputs + N.cells → ((p : ℕ) → N.net p ≡ get_or nets.now p 0) → ReachMasks N cone.now → SiteMasks N sites.new }
 {
     for p in 0..n {
-        let x = wide(nets[p]);
-        sites[x] = sites[x] | cone[p];
+        sites[usize::from(nets[p])] |= cone[p];
         sites[base + p] = cone[p];
     }
 }
@@ -46,13 +45,13 @@ pub fn wide_outputs(o: usize, widths: &[u16]) -> u64
     requires { (o ≤ 64) × (length widths.now ≡ 64) }
     ensures { WideWord o widths.now result }
 {
-    let mut r = 0u64;
-    for z in 0..o {
-        if 16 < wide(widths[z]) {
-            r = r | words::one_bit(z);
+    let mut wides = 0;
+    for (z, &w) in widths[..o].iter().enumerate() {
+        if 16 < w {
+            wides |= words::one_bit(z);
         }
     }
-    r
+    wides
 }
 
 // The lowest of the o outputs of the word that is wide, or o.
@@ -86,11 +85,7 @@ pub fn left_all(n: usize, left: &[u64]) -> u64
     requires { n ≤ length left.now }
     ensures { Joined n left.now result }
 {
-    let mut x = 0u64;
-    for f in 0..n {
-        x = x | left[f];
-    }
-    x
+    left[..n].iter().fold(0, |all, outs| all | outs)
 }
 
 // Those outputs of g that are in the word exactly if output z is.
@@ -110,9 +105,9 @@ pub fn group_of(z: usize, b: usize, reached: &Reached) -> u64
     requires { (z < 64) × (b ≤ 4160) }
     ensures { Alike b z reached.now result }
 {
-    let mut g = 0xffff_ffff_ffff_ffffu64;
-    for k in 0..b {
-        g = part(g, reached[k], z);
+    let mut g = u64::MAX;
+    for &word in &reached[..b] {
+        g = part(g, word, z);
     }
     g
 }
@@ -126,15 +121,13 @@ pub fn verdict(o: usize, outs: u64, best: usize, pat: usize, widths: &OutputWidt
         → Sofar (Tried N (blocks N low) (stuck fault) (rel_of reached)) (size_of b reached) 0 outs left best pat → WalkIs N (blocks N low) fault outs reached result }
 {
     let mut tries = 0;
-    let mut z = 0;
-    while z < o {
+    for (z, &w) in widths[..o].iter().enumerate() {
         if words::has_bit(outs, z) {
             if z == best {
                 return Walk::Hit(z, pat, tries + (pat + 1));
             }
-            tries += 1usize << wide(widths[z]);
+            tries += 1usize << w;
         }
-        z += 1;
     }
     Walk::Missed(tries)
 }

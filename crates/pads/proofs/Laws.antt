@@ -1,12 +1,12 @@
 -- The laws of the sources, cell by cell, and of the pins that are left out.
-use Prim.Native.Nat.{ℕ, suc, ◌+◌, ◌≤◌, ◌<◌}
+use Prim.Native.Nat.{ℕ, ◌+◌, ◌<◌}
 use mathlib.Core.Path.{◌≡◌, refl, sym, ap, ◌∙◌}
 use mathlib.Core.Logic.{inl, inr}
 use mathlib.Core.Bool.{Bool, true, false, cond, ◌&&◌}
 use mathlib.Core.List.{List}
 use native.Mathlib.Omega.{arith}
 use native.Mathlib.Decide.{dec_lt, ℕ_discrete}
-use borrow.Author.Tests.{lt-ltb, le-ltb, eq-eqb, ne_eqb, eqb-true}
+use borrow.Author.Tests.{lt-ltb, le-ltb, eq-eqb, eqb-true}
 use lib.Dec.{eqb, ltb}
 use lib.ListN.{length, get_or, set, length-set}
 use lib.Seq.{get_or-set_same, get_or-set_other}
@@ -14,12 +14,16 @@ use Rattle.chip.specs.Netlist.{Netlist, first_pin, all_pins}
 use Rattle.chip.specs.Inner.Limits.{Sound, InLimits}
 use Rattle.chip.specs.Pads.{some, back, is_buf, source, pad_buffer, into_pad, branch_of}
 use Rattle.chip.specs.Inner.Tables.{BranchTable}
-use Rattle.chip.proofs.Bools.{clash, or_no, or_yes}
-use Rattle.chip.proofs.Basics.{Ranked, net_cases, first_pin_lem, pin_named}
+use Rattle.chip.proofs.Bools.{clash}
+use Rattle.chip.proofs.Basics.{Ranked, net_cases, first_pin_lem, pin_in, pin_named}
 use Rattle.chip.proofs.Pads.{buf_is, pad_buf, source_yes, source_no, source_input, source_buf, buf_source, kind_buf}
 use Rattle.order.specs.Order.{Ordered}
 use Rattle.order.proofs.Order.{ranked_of}
-use Rattle.pads.specs.Sources.{source_of, Inputs, SourceTable, Named}
+use Rattle.pads.specs.Sources.{source_of, SourceTable}
+
+-- a cell's first pin is one of the table's
+pub first_low : (N : Netlist) → InLimits N → (j : ℕ) → j < N.cells → first_pin N j < 4096
+first_low N L j l = omega (arith, L.few_pins, pin_in N j (first_pin N j) (first_pin_lem N L.sound j l))
 
 -- a net whose source is no input is its own
 pub source_self : (N : Netlist) (n : ℕ) → ¬ (source N n < N.inputs) → source N n ≡ n
@@ -27,19 +31,6 @@ source_self N n g = elim (dec_lt (back N N.cells n) N.inputs) [
   | yes l ↦ absurd (g (rw (source_yes N n l) l))
   | no h ↦ source_no N n (omega arith)
 ]
-
--- what `cell_source` answers
-pub gives_fed : (i kind own fed : ℕ) → kind ≡ 0 → fed < i → source_of i kind own fed ≡ fed
-unfolding source_of
-gives_fed i kind own fed k l = cc (eq-eqb kind 0 k, lt-ltb fed i l)
-
-pub gives_own : (i kind own fed : ℕ) → kind ≡ 0 → i ≤ fed → source_of i kind own fed ≡ own
-unfolding source_of
-gives_own i kind own fed k l = cc (eq-eqb kind 0 k, le-ltb fed i l)
-
-pub gives_other : (i kind own fed : ℕ) → (kind ≡ 0 → ⊥) → source_of i kind own fed ≡ own
-unfolding source_of
-gives_other i kind own fed g = cc (ne_eqb kind 0 g)
 
 -- the source of a cell's net is what `cell_source` says
 pub cell_is : (N : Netlist) → InLimits N → Ranked N → (j : ℕ) → j < N.cells
@@ -74,9 +65,6 @@ pub record Sourced (N : Netlist) (order : List ℕ) (k : ℕ) (table : List ℕ)
   pub long : length table ≡ 1088
   pub own : (x : ℕ) → x < N.inputs → get_or table x 0 ≡ x
   pub done : (m : ℕ) → m < k → get_or table (N.inputs + get_or order m 0) 0 ≡ source N (N.inputs + get_or order m 0)
-
-pub sourced_start : (N : Netlist) (order table : List ℕ) → Inputs N.inputs table → Sourced N order 0 table
-sourced_start N order table I = record { long = I.long; own = I.own; done = λ m l. absurd (omega arith) }
 
 module _ (N : Netlist) (L : InLimits N) (order : List ℕ) (O : Ordered N order) (k : ℕ) (table : List ℕ) (K : Sourced N order k table) (h : k < N.cells) where
   j : ℕ
@@ -130,43 +118,6 @@ sourced_all N order O k table q K =
 pub record LeftOut (N : Netlist) (j : ℕ) (table : List ℕ) : Type 0 where
   pub long : length table ≡ 4096
   pub at : (p : ℕ) → p < all_pins N → get_or table p 0 ≡ cond (some (λ i. pad_buffer N i && eqb (first_pin N i) p) j) N.inputs (source N (N.net p))
-
-pub left_start : (N : Netlist) (n : ℕ) (table : List ℕ) → n ≡ all_pins N → Named N n table → LeftOut N 0 table
-left_start N n table q K = record { long = K.long; at = λ p l. K.at p (omega arith) }
-
-module _ (N : Netlist) (j : ℕ) (table : List ℕ) (K : LeftOut N j table) where
-  test : ℕ → ℕ → Bool
-  test p i = pad_buffer N i && eqb (first_pin N i) p
-
-  pub left_skip : ¬ (source N (N.inputs + j) < N.inputs) → LeftOut N (j + 1) table
-  unfolding test
-  left_skip g =
-      let up : j + 1 ≡ suc j = omega arith in
-      rw up (record {
-        long = K.long;
-        at = λ p l.
-            let none : pad_buffer N j ≡ false = le-ltb (source N (N.inputs + j)) N.inputs (omega arith) in
-            let f : test p j ≡ false = ap (λ t. t && eqb (first_pin N j) p) none in
-            K.at p l ∙ ap (λ t. cond t N.inputs (source N (N.net p))) (sym (or_no (some (test p) j) (test p j) f));
-      })
-
-  pub left_more : source N (N.inputs + j) < N.inputs → first_pin N j < 4096 → LeftOut N (j + 1) (set table (first_pin N j) N.inputs)
-  unfolding test
-  left_more s h =
-      let up : j + 1 ≡ suc j = omega arith in
-      let pad : pad_buffer N j ≡ true = lt-ltb (source N (N.inputs + j)) N.inputs s in
-      rw up (record {
-        long = simp length-set K.long;
-        at = λ p l. elim (ℕ_discrete p (first_pin N j)) [
-          | yes q ↦
-              let t : test p j ≡ true = ap (λ t. t && eqb (first_pin N j) p) pad ∙ eq-eqb (first_pin N j) p (sym q) in
-              ap (λ (i : ℕ). get_or (set table (first_pin N j) N.inputs) i 0) q ∙ get_or-set_same table (first_pin N j) N.inputs 0 (omega (arith, K.long))
-              ∙ ap (λ t. cond t N.inputs (source N (N.net p))) (sym (or_yes (some (test p) j) (test p j) t))
-          | no g ↦
-              let f : test p j ≡ false = ap (λ t. t && eqb (first_pin N j) p) pad ∙ ne_eqb (first_pin N j) p (λ e. g (sym e)) in
-              get_or-set_other table (first_pin N j) p N.inputs 0 g ∙ K.at p l ∙ ap (λ t. cond t N.inputs (source N (N.net p))) (sym (or_no (some (test p) j) (test p j) f))
-        ];
-      })
 
 pub left_all : (N : Netlist) (j : ℕ) (table : List ℕ) → j ≡ N.cells → LeftOut N j table → BranchTable N table
 unfolding branch_of into_pad

@@ -1,42 +1,24 @@
 -- The variables set word by word, and a chunk once they are.
 use Prim.Native.Nat.{ℕ, ◌+◌, ◌-◌, ◌*◌, ◌^◌, ◌≤◌, ◌<◌}
-use mathlib.Core.Path.{◌≡◌, refl, ap, ◌∙◌}
+use mathlib.Core.Path.{◌≡◌, ◌∙◌}
 use mathlib.Core.List.{List}
 use native.Mathlib.Omega.{arith}
-use native.Mathlib.Decide.{ℕ_discrete}
-use lib.ListN.{length, get_or, set, length-set}
-use lib.Seq.{get_or-set_same, get_or-set_other}
-use Rattle.chip.specs.Search.{digit}
+use Rattle.std.proofs.Common.{rules}
+use Rattle.std.proofs.lemmas.List.{places}
+use borrow.Rule.Slice.PartMut.{mid_of, put_mid}
+use lib.ListN.{length, get_or, replicate, get_or-replicate}
+use Rattle.rows.specs.Rows.{Filled}
 use Rattle.bridge.specs.Chunk.{Chunk}
-use Rattle.patterns.specs.Variables.{Variable, Variables}
+use Rattle.patterns.specs.Variables.{Variables}
 
-pub word_none : (i q : ℕ) (a : List ℕ) → Variable i q 0 a a
-word_none i q a = record { long = refl; bits = λ k l b. absurd (omega arith); others = λ x g. refl }
-
-pub word_more : (i q n : ℕ) (a m : List ℕ) (x : ℕ) → Variable i q n a m → 16 * i + n < length a → n < 16 → ((l : ℕ) → l < 64 → digit l x ≡ digit i (64 * (q + n) + l))
-    → Variable i q (n + 1) a (set m (16 * i + n) x)
-word_more i q n a m x F h b w =
+-- a part of a table filled with one word
+pub part_filled : (a n w : ℕ) (xs ys : List ℕ) → a + n ≤ length xs → ys ≡ replicate (length (mid_of a n xs)) w → Filled a n (λ _. w) xs (put_mid a n xs ys)
+part_filled a n w xs ys h e =
     record {
-      long = simp length-set F.long;
-      bits = λ k l c d. elim (ℕ_discrete k n) [
-        | yes e ↦ rw e (ap (digit l) (get_or-set_same m (16 * i + n) x 0 (omega (arith, F.long))) ∙ w l d)
-        | no g ↦ ap (digit l) (get_or-set_other m (16 * i + n) (16 * i + k) x 0 (λ e. g (omega arith))) ∙ F.bits k l (omega arith) d
-      ];
-      others = λ y g. get_or-set_other m (16 * i + n) y x 0 (λ e. g (omega arith)) ∙ F.others y g;
-    }
-
-pub slots_none : (q : ℕ) (a : List ℕ) → Variables 0 q a a
-slots_none q a = record { long = refl; bits = λ s k l b. absurd (omega arith); others = λ x g. refl }
-
-pub slots_more : (w q : ℕ) (a m r : List ℕ) → Variables w q a m → Variable w q 16 m r → Variables (w + 1) q a r
-slots_more w q a m r F W =
-    record {
-      long = W.long ∙ F.long;
-      bits = λ s k l b c d. elim (ℕ_discrete s w) [
-        | yes e ↦ rw e (W.bits k l c d)
-        | no g ↦ ap (digit l) (W.others (16 * s + k) (λ e. g (omega arith))) ∙ F.bits s k l (omega arith) c d
-      ];
-      others = λ x g. W.others x (λ e. omega arith) ∙ F.others x (omega arith);
+      long = search (rules, places);
+      done = λ k l. search (rules, places, get_or-replicate);
+      below = λ x l. search (rules, places);
+      above = λ x l. search (rules, places);
     }
 
 -- with the constants in their slots this is a chunk

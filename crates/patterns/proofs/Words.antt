@@ -40,10 +40,6 @@ good_words c w q u kinds counts firsts src order reach heads readers goods vals 
           F.above x (omega arith) ∙ S.beyond x (omega arith) ∙ sym (K.others x (omega arith)) ∙ sym (W.others x (λ t h e. omega (arith, inside t h)))
     ]
 
-pub store_again : (c w q u : ℕ) (kinds counts firsts src order reach goods vals vals' : List ℕ) → GoodWords c w q u kinds counts firsts src order reach goods vals → vals' ≡ goods → Store c goods vals'
-store_again c w q u kinds counts firsts src order reach goods vals vals' G e =
-    record { words = G.words; runs = rw e G.words; zeros = G.chunk.zeros; ones = G.chunk.ones; beyond = λ x l. ap (λ a. get_or a x 0) e }
-
 -- two tables of zeros with the ones in their slot
 pub store_blank : (c : ℕ) (a goods vals : List ℕ) → length a ≡ 16672 → ((x : ℕ) → get_or a x 0 ≡ 0) → Filled 16656 16 (λ k. 2 ^ 64 - 1) a goods → Filled 16656 16 (λ k. 2 ^ 64 - 1) a vals → Store c goods vals
 store_blank c a goods vals l z F G =

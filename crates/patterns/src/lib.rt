@@ -3,12 +3,10 @@
 ghost use Rattle.std.specs.Prelude.{◌≡◌, List, ℕ, ◌+◌, ◌-◌, ◌*◌, ◌^◌, ◌≤◌, ◌<◌, length, get_or};
 ghost use Rattle.rows.specs.Rows.{Filled};
 ghost use Rattle.events.specs.Events.{Chip};
-ghost use Rattle.events.specs.Lent.{kinds_of, counts_of, firsts_of, order_of};
 ghost use Rattle.patterns.specs.Variables.{Variable, Variables};
 ghost use Rattle.patterns.specs.Words.{Store, GoodWords};
 
-use chip::CELLS;
-use events::{COUNT, FIRST, KIND, ORDER, Trial};
+use events::{ChipTables, GroupTables, Trial};
 use rows::WORDS;
 
 // Variable i.
@@ -36,38 +34,23 @@ pub fn put_ones(words: &mut [u64; WORDS])
     requires { length words.old ≡ 16672 }
     ensures { Filled 16656 16 (λ k. 2 ^ 64 - 1) words.old words.new }
 {
-    for k in 0..16 {
-        words[16656 + k] = 0xffff_ffff_ffff_ffff;
-    }
+    words[16656..].fill(0xffff_ffff_ffff_ffff);
 }
 
 // The good words, in both tables.
 // Open: words of variables past the width, of slots past the cells, and of places that reach no output that is asked for: scratch of the chunk before.
-pub fn good_words<'a>(
+pub fn good_words<'a, 'b>(
     trial: Trial,
-    bytes: [&'a [u8]; 3],
-    tables: [&'a [u16]; 5],
-    src: &[u16],
-    reach: &[u64; CELLS],
+    chip: ChipTables<'a>,
+    group: GroupTables<'b>,
     goods: &mut [u64; WORDS],
     vals: &mut [u64; WORDS],
 )
-    requires by_index { (heads readers : List ℕ) × Chip trial.cells (kinds_of bytes) (counts_of bytes) (firsts_of tables) src.now (order_of tables) reach.now heads readers }
-    requires width_bound { (trial.width ≤ 16) × (trial.chunk < 4096) × (trial.cells ≤ 1024) × ((t : ℕ) → t < trial.cells → get_or (order_of tables) t 0 < trial.cells) × Store trial.cells goods.old vals.old }
-    ensures { GoodWords trial.cells trial.width trial.chunk trial.at (kinds_of bytes.entry) (counts_of bytes.entry) (firsts_of tables.entry) src.now (order_of tables.entry) reach.now goods.new vals.new }
+    requires by_index { (heads readers : List ℕ) × Chip chip.sizes.cells chip.kinds.now chip.counts.now chip.firsts.now group.slots.now chip.order.now chip.reach.now heads readers }
+    requires width_bound { (group.width ≤ 16) × (trial.chunk < 4096) × (chip.sizes.cells ≤ 1024) × ((t : ℕ) → t < chip.sizes.cells → get_or chip.order.now t 0 < chip.sizes.cells) × Store chip.sizes.cells goods.old vals.old }
+    ensures { GoodWords chip.entry.sizes.cells group.entry.width trial.chunk trial.at chip.entry.kinds.now chip.entry.counts.now chip.entry.firsts.now group.entry.slots.now chip.entry.order.now chip.entry.reach.now goods.new vals.new }
 {
-    let c = trial.cells;
-    set_variables(trial.width, trial.chunk, goods);
-    events::good_cells(
-        c,
-        trial.at,
-        bytes[KIND],
-        bytes[COUNT],
-        tables[FIRST],
-        src,
-        tables[ORDER],
-        reach,
-        goods,
-    );
-    events::copy_words(16 * (16 + c), goods, vals);
+    set_variables(group.width, trial.chunk, goods);
+    events::good_cells(trial.at, chip, group.slots, goods);
+    events::copy_words(16 * (16 + chip.sizes.cells), goods, vals);
 }

@@ -124,11 +124,6 @@ faults_apart i c counts firsts src order A once s t e f sc tc d el fl q = elim (
   ]
 ]
 
-pub places_none : (i c q g : ℕ) (kinds counts firsts src order reach outs goods left best pat groups : List ℕ) → Long left best pat → length groups ≡ 1024
-    → PlacesDone 0 i c q g kinds counts firsts src order reach outs goods left best pat groups left best pat groups
-places_none i c q g kinds counts firsts src order reach outs goods left best pat groups L l =
-    record { long = L; long_groups = l; covers = λ t h C. C; idle = λ t h e. e; others = λ x d. (refl, refl, refl); advance = λ o nets cone low rel S t e h np C b. absurd (omega arith) }
-
 advance_is : (Shown : ℕ → ℕ → Type 0) (g q l b p l' b' p' l₂ b₂ p₂ l₃ b₃ p₃ : ℕ) → Advance Shown g q l b p l' b' p' → l₂ ≡ l → b₂ ≡ b → p₂ ≡ p → l₃ ≡ l' → b₃ ≡ b' → p₃ ≡ p' → Advance Shown g q l₂ b₂ p₂ l₃ b₃ p₃
 advance_is Shown g q l b p l' b' p' l₂ b₂ p₂ l₃ b₃ p₃ A e f h k m n = rw (e, f, h, k, m, n) A
 

@@ -5,7 +5,6 @@ use mathlib.Core.Logic.{◌≢◌}
 use mathlib.Core.Bool.{true, false}
 use mathlib.Core.List.{List}
 use native.Mathlib.Omega.{arith}
-use native.Mathlib.Numerals.{add-one}
 use native.Mathlib.Decide.{dec_lt, ℕ_discrete}
 use borrow.Author.Tests.{eq-eqb, ne_eqb, lt-ltb, le-ltb}
 use lib.ListN.{length, get_or, set, length-set}
@@ -14,7 +13,7 @@ use lib.Dec.{eqb, ltb}
 use Rattle.chip.specs.Netlist.{bit}
 use Rattle.chip.proofs.Blocks.{tally_most, tally_past}
 use Rattle.rows.specs.Rows.{Filled}
-use Rattle.readers.specs.Readers.{key_of, same, under, spot, Heads, Wires, Owned, Reached, Counted, Summed, Put, Read, Built}
+use Rattle.readers.specs.Readers.{key_of, same, under, spot, Heads, Wires, Owned, Counted, Summed, Put, Read, Built}
 
 bit_step : (k s : ℕ) → bit (ltb k (s + 1)) ≡ bit (ltb k s) + bit (eqb k s)
 bit_step k s = elim (dec_lt k s) [
@@ -75,30 +74,6 @@ same_few key s n = tally_most (λ p. eqb (key p) s) n
 
 -- ---- one step of each table
 
-pub reach_more : (t : ℕ) (firsts order cone before reach : List ℕ) (x : ℕ) → Reached t firsts order cone before reach → t < length before → x ≡ get_or cone (get_or firsts (get_or order t 0) 0) 0
-    → Reached (t + 1) firsts order cone before (set reach t x)
-reach_more t firsts order cone before reach x R l e =
-    record {
-      long = simp length-set R.long;
-      mask = λ s h. elim (ℕ_discrete s t) [
-        | yes q ↦ rw q (get_or-set_same reach t x 0 (omega (arith, R.long)) ∙ e)
-        | no g ↦ get_or-set_other reach t s x 0 g ∙ R.mask s (omega arith)
-      ];
-    }
-
-pub count_none : (key : ℕ → ℕ) (heads : List ℕ) → length heads ≡ 5185 → ((x : ℕ) → get_or heads x 0 ≡ 0) → Counted 0 key heads
-count_none key heads l z = record { long = l; at = λ s h. z s }
-
-pub count_more : (k : ℕ) (key : ℕ → ℕ) (heads : List ℕ) (s x : ℕ) → Counted k key heads → s ≡ key k → s < 5185 → x ≡ get_or heads s 0 + 1 → Counted (k + 1) key (set heads s x)
-count_more k key heads s x C e l f =
-    record {
-      long = simp length-set C.long;
-      at = λ y h. rw add-one (elim (ℕ_discrete y s) [
-        | yes q ↦ ap (λ t. get_or (set heads s x) t 0) q ∙ get_or-set_same heads s x 0 (omega (arith, C.long)) ∙ omega (arith, f, C.at y h, ap (λ t. get_or heads t 0) q, same_next key y k (q ∙ e))
-        | no g ↦ get_or-set_other heads s y x 0 g ∙ C.at y h ∙ sym (same_other key y k (λ q. g (q ∙ sym e)))
-      ]);
-    }
-
 pub sum_none : (n : ℕ) (key : ℕ → ℕ) (heads : List ℕ) → Counted n key heads → Summed 0 n key heads 0
 sum_none n key heads C = record { long = C.long; upto = sym (under_zero key n); done = λ x l. absurd (omega arith); rest = λ x l h. C.at x h }
 
@@ -139,9 +114,6 @@ put_more k p n key heads s r P e f l g =
       ];
     }
 
-pub read_none : (n c : ℕ) (key : ℕ → ℕ) (owner readers : List ℕ) → length readers ≡ n → ((x : ℕ) → get_or readers x 0 ≡ 0) → Read n n c key owner readers
-read_none n c key owner readers l z = record { long = l; small = λ h r. omega (arith, z r); entry = λ p a b. absurd (omega arith) }
-
 small_set : (readers : List ℕ) (r x c : ℕ) → ((y : ℕ) → get_or readers y 0 < c) → x < c → r < length readers → (y : ℕ) → get_or (set readers r x) y 0 < c
 small_set readers r x c S l h y = elim (ℕ_discrete y r) [
   | yes q ↦ rw (q, get_or-set_same readers r x 0 h) l
@@ -162,9 +134,6 @@ read_more k p n c key owner readers r x R e l f g S =
     }
 
 -- ---- the places of the pins
-
-pub owned_none : (c : ℕ) (counts firsts order owner : List ℕ) → length owner ≡ 4096 → ((x : ℕ) → get_or owner x 0 ≡ 0) → Owned 0 c counts firsts order owner
-owned_none c counts firsts order owner l z = record { long = l; small = λ h x. omega (arith, z x); place = λ s x a b. absurd (omega arith) }
 
 pub owned_more : (i c n t : ℕ) (counts firsts branches nets order block owner owner' : List ℕ) (a m v : ℕ) → Wires i c n counts firsts branches nets order block → t < c → Owned t c counts firsts order owner
     → a ≡ get_or firsts (get_or order t 0) 0 → m ≡ get_or counts (get_or order t 0) 0 → v ≡ t → Filled a m (λ x. v) owner owner' → Owned (t + 1) c counts firsts order owner'

@@ -1,6 +1,7 @@
 -- The places that read each block and each cell, by counting.
 use Rattle.std.specs.Prelude.{ℕ, ◌+◌, ◌-◌, ◌≤◌, ◌<◌, ◌≡◌, ◌≢◌, cond, List, length, get_or, eqb, ltb}
 use Rattle.chip.specs.Class.{tally}
+use Rattle.readers.specs.declared.Pins.{Pins}
 
 -- the head of a pin: its block if it is a branch, else 4160 and the number of the cell that it names; what a pin that is neither reads does not matter
 abbrev pub head_of : ℕ → ℕ → ℕ → ℕ → ℕ
@@ -28,6 +29,13 @@ pub record Heads (i n : ℕ) (branches nets block : List ℕ) : Type 0 where
   pub nets_long : length nets ≡ 4096
   pub block_long : length block ≡ 4096
   pub named : (p : ℕ) → p < n → (get_or branches p 0 < i → get_or block p 0 < 4160) × (get_or nets p 0 < i + 1024)
+
+-- the same of the pins of a chip
+abbrev pub pin_key : Pins → ℕ → ℕ
+pin_key P = key_of P.inputs P.branches.now P.nets.now P.block.now
+
+abbrev pub PinHeads : Pins → ℕ → Type 0
+PinHeads P n = Heads P.inputs n P.branches.now P.nets.now P.block.now
 
 -- c cells in an order, with n pins
 pub record Wires (i c n : ℕ) (counts firsts branches nets order block : List ℕ) : Type 0 where

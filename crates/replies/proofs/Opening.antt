@@ -11,37 +11,32 @@ use Rattle.chip.specs.Got.{Got, refused, got}
 use Rattle.chip.specs.Format.{Parsed, read_of, chip_of}
 use Rattle.chip.specs.Class.{Class23, ClassIs, TwoDepths, Prepared}
 use Rattle.chip.specs.Refusals.{Step, refuses, goes_on, Is, When9, When10, When11, Opens, unread, read, Start, unopened, opened, Knowing, prepared}
+use Rattle.chip.specs.declared.Reason.{Reason}
 use Rattle.chip.proofs.Theorem.{one_prepared, class_23}
 use Rattle.netlist.proofs.Limits.{in_limits, sound}
-use Rattle.replies.proofs.Guards.{one_least, none_least, one_step}
-
-clash : {A : Type 0} {n p : ℕ} {x : Parsed} {y : Got Parsed} → y ≡ refused n p → y ≡ got x → A
-clash {A} {n} {p} {x} {y} e f = let z : ◌≡◌ {A = ℕ} 0 1 = cc in absurd (omega arith)
+use Rattle.replies.proofs.Guards.{one_least, none_least, one_step, same_refusal}
 
 pub one_file : {x y : Parsed} {s : Got Parsed} → s ≡ got x → s ≡ got y → x ≡ y
-one_file {x} {y} {s} e f = cc
+one_file e f = cc
 
 abbrev Opened : Parsed → Got Netlist → Type 0
-Opened x = Step (When9 (chip_of x)) (refused 9) (Step (When10 (chip_of x)) (refused 10) (Is (got (chip_of x))))
+Opened x = Step (When9 (chip_of x)) (refused Reason.Looped) (Step (When10 (chip_of x)) (refused Reason.TooDeep) (Is (got (chip_of x))))
 
 one_opened : (x : Parsed) {a b : Got Netlist} → Opened x a → Opened x b → a ≡ b
 one_opened x = one_step one_least (λ _. one_step one_least (λ _ e f. e ∙ sym f))
 
 pub one_opens : (file : List ℕ) {a b : Got Netlist} → Opens file a → Opens file b → a ≡ b
-one_opens file (unread {n = n} {p = p} e) (unread {n = m} {p = q} f) =
-    let s : ◌≡◌ {A = Got Parsed} (refused n p) (refused m q) = sym e ∙ f in
-    let (h, k) : (n ≡ m) × (p ≡ q) = (cc, cc) in
-    rw (h, k) refl
-one_opens file (unread e) (read f _) = clash e f
-one_opens file (read e _) (unread f) = clash f e
+one_opens file (unread e) (unread f) = cc
+one_opens file (unread e) (read f _) = cc
+one_opens file (read e _) (unread f) = cc
 one_opens file (read {x = x} {a = a} e h) (read {x = y} {a = b} f k) = one_opened x h (subst (λ w. Opened w b) (one_file f e) k)
 
 pub same_netlist : {file : List ℕ} {N M : Netlist} → Opens file (got N) → Opens file (got M) → N ≡ M
-same_netlist {file} {N} {M} e f = let s : ◌≡◌ {A = Got Netlist} (got N) (got M) = one_opens file e f in cc
+same_netlist {file} e f = let s = one_opens file e f in cc
 
-pub not_refused : {A : Type 0} {file : List ℕ} {N : Netlist} {n p : ℕ} → Opens file (refused n p) → Opens file (got N) → A
-not_refused {file = file} {N = N} {n = n} {p = p} e f =
-    let s : ◌≡◌ {A = Got Netlist} (refused n p) (got N) = one_opens file e f in
+pub not_refused : {A : Type 0} {file : List ℕ} {N : Netlist} {r : Reason} {p : ℕ} → Opens file (refused r p) → Opens file (got N) → A
+not_refused {file = file} e f =
+    let s = one_opens file e f in
     let z : ◌≡◌ {A = ℕ} 0 1 = cc in
     absurd (omega arith)
 
@@ -66,26 +61,23 @@ pub is_read : {file : List ℕ} {N : Netlist} → Opens file (got N) → (x : Pa
 is_read {N = N} (read {x = x} e h) = (x, e, is_chip h refl)
   where
     is_chip : {a : Got Netlist} → Opened x a → a ≡ got N → chip_of x ≡ N
-    is_chip (refuses {p = p} _) f = let z : ◌≡◌ {A = ℕ} 0 1 = cc in absurd (omega arith)
-    is_chip (goes_on _ (refuses {p = p} _)) f = let z : ◌≡◌ {A = ℕ} 0 1 = cc in absurd (omega arith)
-    is_chip (goes_on _ (goes_on _ q)) f = let s : ◌≡◌ {A = Got Netlist} (got (chip_of x)) (got N) = sym q ∙ f in cc
+    is_chip (refuses _) f = cc
+    is_chip (goes_on _ (refuses _)) f = cc
+    is_chip (goes_on _ (goes_on _ q)) f = cc
 
 pub opened_limits : {file : List ℕ} {N : Netlist} → Opens file (got N) → InLimits N
 opened_limits {file} o = let (x, e, q) = is_read o in subst InLimits q (read_limits file x e)
 
 -- A call on a file has one reply if the call on the netlist has one.
-pub one_start : {A : Type 0} {refuse : ℕ → ℕ → A} {Call : Netlist → A → Type 0} {file : List ℕ} {a b : A}
+pub one_start : {A : Type 0} {refuse : Reason → ℕ → A} {Call : Netlist → A → Type 0} {file : List ℕ} {a b : A}
     → ((N : Netlist) → InLimits N → Call N a → Call N b → a ≡ b) → Start refuse Call file a → Start refuse Call file b → a ≡ b
-one_start {refuse = refuse} {file = file} one (unopened {n = n} {p = p} e) (unopened {n = m} {p = q} f) =
-    let s : ◌≡◌ {A = Got Netlist} (refused n p) (refused m q) = one_opens file e f in
-    let (h, k) : (n ≡ m) × (p ≡ q) = (cc, cc) in
-    rw (h, k) refl
+one_start {file = file} one (unopened e) (unopened f) = let (h, k) = same_refusal refl (one_opens file e f) in rw (h, k) refl
 one_start one (unopened e) (opened f _) = not_refused e f
 one_start one (opened e _) (unopened f) = not_refused f e
 one_start {Call = Call} {b = b} one (opened {N = N} e h) (opened f k) = one N (opened_limits e) h (subst (λ M. Call M b) (same_netlist f e) k)
 
 -- the reply of a call on a file that opens as a netlist is that of the call on the netlist
-pub start_is : {A : Type 0} {refuse : ℕ → ℕ → A} {Call : Netlist → A → Type 0} {file : List ℕ} {N : Netlist} {a : A} → Opens file (got N) → Start refuse Call file a → Call N a
+pub start_is : {A : Type 0} {refuse : Reason → ℕ → A} {Call : Netlist → A → Type 0} {file : List ℕ} {N : Netlist} {a : A} → Opens file (got N) → Start refuse Call file a → Call N a
 start_is o (unopened e) = not_refused e o
 start_is {Call = Call} {a = a} o (opened e h) = subst (λ M. Call M a) (same_netlist e o) h
 

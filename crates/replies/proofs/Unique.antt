@@ -1,4 +1,5 @@
 -- Two replies that a call's contract allows are equal, answer and buffer.
+use Rattle.std.specs.Prelude.{Option}
 use Prim.Native.Nat.{ℕ, suc, ◌<◌}
 use mathlib.Core.Path.{◌≡◌, refl, sym, ap, ◌∙◌, subst}
 use mathlib.Core.Bool.{Bool}
@@ -13,14 +14,12 @@ use Rattle.chip.specs.Faults.{stuck, AllBits, play_of}
 use Rattle.chip.specs.Clocks.{BlockAt, pattern_of}
 use Rattle.chip.specs.Checking.{Seen, NotSeen}
 use Rattle.chip.specs.Search.{pattern}
+use Rattle.chip.specs.Got.{Got}
 use Rattle.chip.specs.Refusals.{When11, Clocks}
 use Rattle.chip.specs.Replies.{ClassReply, CircuitOn, TransformReply, PlaySet, SetOn, SetReply, PatternRead, ReadOn, ReadReply, Checks, shows, shows_not, CheckReply, Searches, finds, finds_none, SearchReply}
 use Rattle.chip.specs.declared.Fault.{Fault}
 use Rattle.chip.specs.declared.Classed.{Classed}
-use Rattle.chip.specs.declared.Transformed.{Transformed}
-use Rattle.chip.specs.declared.Setting.{Setting}
-use Rattle.chip.specs.declared.ReadBack.{ReadBack}
-use Rattle.chip.specs.declared.Checked.{Checked}
+use Rattle.chip.specs.declared.Sight.{Sight}
 use Rattle.chip.specs.declared.Searched.{Searched}
 use Rattle.chip.proofs.LookBack.{Balanced}
 use Rattle.chip.proofs.Loops.{ranked}
@@ -34,17 +33,17 @@ use Rattle.replies.proofs.Opening.{one_start, one_knowing, even_class}
 
 -- Naming the class.
 
-pub one_class_reply : (file : List ℕ) {a b : Classed} → ClassReply file a → ClassReply file b → a ≡ b
+pub one_class_reply : (file : List ℕ) {a b : Got Classed} → ClassReply file a → ClassReply file b → a ≡ b
 one_class_reply file = one_start (λ N L. one_knowing (λ d low k P e f. e ∙ sym f))
 
 -- Transforming.
 
-one_circuit : (N : Netlist) (B : Blocks) (entry : List ℕ) {a b : Transformed × List ℕ} → CircuitOn N B entry a → CircuitOn N B entry b → a ≡ b
+one_circuit : (N : Netlist) (B : Blocks) (entry : List ℕ) {a b : Got ℕ × List ℕ} → CircuitOn N B entry a → CircuitOn N B entry b → a ≡ b
 one_circuit N B entry {a} {b} =
     one_step one_at (λ _. one_step one_at (λ _. one_step one_at (λ _. one_step one_at (λ _ w w'.
     same_pair a b (w.0 ∙ sym w'.0) (same_wrote _ _ entry _ _ refl w.1 w'.1)))))
 
-pub one_transform_reply : (file entry : List ℕ) {a b : Transformed × List ℕ} → TransformReply file entry a → TransformReply file entry b → a ≡ b
+pub one_transform_reply : (file entry : List ℕ) {a b : Got ℕ × List ℕ} → TransformReply file entry a → TransformReply file entry b → a ≡ b
 one_transform_reply file entry = one_start (λ N L. one_knowing (λ d low k P. one_circuit N (blocks N low) entry))
 
 -- Setting and reading back, on a netlist of class 2 or 3.
@@ -73,23 +72,23 @@ module _ (N : Netlist) (L : InLimits N) {d : ℕ} {low : ℕ → ℕ} {k : ℕ} 
       (same_pattern p.pattern p'.pattern (p.long ∙ sym p'.long) p.bits p'.bits
       (λ b l. one_pattern N L.sound (ranked N P.loop_free) d P.depth.within B bal z zo t (play_of N.inputs play) _ _ p.reads p'.reads b (omega (arith, p.long)))) p.wrote p'.wrote
 
-one_set_on : (N : Netlist) → InLimits N → (output : ℕ) (pattern entry : List ℕ) {a b : Setting × List ℕ} → SetOn N output pattern entry a → SetOn N output pattern entry b → a ≡ b
+one_set_on : (N : Netlist) → InLimits N → (output : ℕ) (pattern entry : List ℕ) {a b : Got ℕ × List ℕ} → SetOn N output pattern entry a → SetOn N output pattern entry b → a ≡ b
 one_set_on N L output pattern entry {a} {b} =
     one_knowing (λ d low k P.
     one_step one_at (λ there. one_step one_least (λ even. one_step one_at (λ _. one_step one_least (λ _. one_step one_at (λ _ s s'.
     same_pair a b (s.0 ∙ sym s'.0) (one_play_set N L P even output (omega (arith, not_at there)) _ _ entry _ _ (λ _ _ _. refl) s.1 s'.1)))))))
 
-pub one_set_reply : (file : List ℕ) (output : ℕ) (pattern entry : List ℕ) {a b : Setting × List ℕ} → SetReply file output pattern entry a → SetReply file output pattern entry b → a ≡ b
+pub one_set_reply : (file : List ℕ) (output : ℕ) (pattern entry : List ℕ) {a b : Got ℕ × List ℕ} → SetReply file output pattern entry a → SetReply file output pattern entry b → a ≡ b
 one_set_reply file output pattern entry = one_start (λ N L. one_set_on N L output pattern entry)
 
-one_read_on : (N : Netlist) → InLimits N → (output : ℕ) (play : List ℕ) (clock : ℕ) (entry : List ℕ) {a b : ReadBack × List ℕ} → ReadOn N output play clock entry a → ReadOn N output play clock entry b → a ≡ b
+one_read_on : (N : Netlist) → InLimits N → (output : ℕ) (play : List ℕ) (clock : ℕ) (entry : List ℕ) {a b : Got ℕ × List ℕ} → ReadOn N output play clock entry a → ReadOn N output play clock entry b → a ≡ b
 one_read_on N L output play clock entry {a} {b} =
     one_knowing (λ d low k P.
     one_step one_at (λ there. one_step one_least (λ even. one_step one_at (λ _. one_step one_least (λ _.
     one_step (λ p q h h'. one_count N.inputs play p q L.some_input h.clocks h'.clocks) (λ _. one_step one_at (λ _ s s'.
     same_pair a b (s.0 ∙ sym s'.0) (one_pattern_read N L P even output (omega (arith, not_at there)) clock play entry _ _ s.1 s'.1))))))))
 
-pub one_read_reply : (file : List ℕ) (output : ℕ) (play : List ℕ) (clock : ℕ) (entry : List ℕ) {a b : ReadBack × List ℕ}
+pub one_read_reply : (file : List ℕ) (output : ℕ) (play : List ℕ) (clock : ℕ) (entry : List ℕ) {a b : Got ℕ × List ℕ}
     → ReadReply file output play clock entry a → ReadReply file output play clock entry b → a ≡ b
 one_read_reply file output play clock entry = one_start (λ N L. one_read_on N L output play clock entry)
 
@@ -105,7 +104,7 @@ module _ (N : Netlist) (L : InLimits N) (fault : Fault) (play : List ℕ) (d : �
   seen_and_not {n = n} {t = t} {z = z} C D s g =
       absurd (seen_or_not N (stuck fault) (play_of N.inputs play) d n t z s (clocks_are (NotSeen N (stuck fault) (play_of N.inputs play) d) C D g))
 
-  one_checks : {a b : Checked} → Checks N d fault play a → Checks N d fault play b → a ≡ b
+  one_checks : {a b : Got (Option Sight)} → Checks N d fault play a → Checks N d fault play b → a ≡ b
   one_checks (shows {n = n} {t = t} {z = z} C s) (shows {t = t'} {z = z'} D r) =
       let (e, f) = one_seen N (stuck fault) (play_of N.inputs play) d n t z t' z' s (clocks_are (λ m. Seen N (stuck fault) (play_of N.inputs play) d m t' z') C D r) in
       rw (e, f) refl
@@ -113,7 +112,7 @@ module _ (N : Netlist) (L : InLimits N) (fault : Fault) (play : List ℕ) (d : �
   one_checks (shows_not D g) (shows C s) = seen_and_not C D s g
   one_checks (shows_not _ _) (shows_not _ _) = refl
 
-pub one_check_reply : (file : List ℕ) (fault : Fault) (play : List ℕ) {a b : Checked} → CheckReply file fault play a → CheckReply file fault play b → a ≡ b
+pub one_check_reply : (file : List ℕ) (fault : Fault) (play : List ℕ) {a b : Got (Option Sight)} → CheckReply file fault play a → CheckReply file fault play b → a ≡ b
 one_check_reply file fault play = one_start (λ N L. one_knowing (λ d low k P. one_step one_at (λ _. one_step one_at (λ _. one_step one_least (λ _. one_checks N L fault play d)))))
 
 -- The search.

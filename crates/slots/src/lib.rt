@@ -4,7 +4,7 @@
 ghost use Rattle.std.specs.Prelude.{◌≡◌, ℕ, ◌+◌, ◌≤◌, ◌<◌, length, get_or};
 ghost use Rattle.slots.specs.Slots.{rel_of, Variables, slot_of, PinSlots, fault_slot, FaultSlots};
 
-use chip::{BLOCKS, Block, Branches, Nets, PINS, Reached, wide};
+use chip::{BLOCKS, Block, Branches, Nets, PINS, Reached};
 
 // Gives each of the first b blocks that reaches output z the next variable's slot, and the others the zeros. Answers how many variables there are.
 // Open: entries past the blocks: a table of 4,160 of which the blocks are in use.
@@ -13,17 +13,15 @@ pub fn variables(z: usize, b: usize, reached: &Reached, table: &mut [u16]) -> us
     ensures { Variables b (rel_of reached.now z) table.new result }
 {
     let mut w = 0u16;
-    let mut k = 0;
-    while k < b {
-        if words::has_bit(reached[k], z) {
+    for (k, &outs) in reached[..b].iter().enumerate() {
+        if words::has_bit(outs, z) {
             table[k] = w;
             w += 1;
         } else {
             table[k] = 1040;
         }
-        k += 1;
     }
-    wide(w)
+    usize::from(w)
 }
 
 // The slot of a pin that is a branch, names a net and is in a block. A branch has its block's slot; another pin that names an input goes into a pad buffer, and what it sees does not matter.
@@ -31,10 +29,10 @@ fn slot(i: usize, slots: &[u16; BLOCKS], branch: u16, net: u16, block: u16) -> u
     requires { (i ≤ 64) × (net ≤ i + 1024) × (branch < i → block < 4160) }
     ensures { result ≡ slot_of i slots.now branch net block }
 {
-    if wide(branch) < i {
-        return slots[wide(block)];
+    if usize::from(branch) < i {
+        return slots[usize::from(block)];
     }
-    if wide(net) < i {
+    if usize::from(net) < i {
         return 1040;
     }
     16 + (net - (i as u16))
@@ -65,7 +63,7 @@ fn fault_slot(byte: u8, good: u16) -> u16
     ensures { result ≡ fault_slot byte good }
 {
     if byte < 2 {
-        return 1040 + (byte as u16);
+        return 1040 + u16::from(byte);
     }
     good
 }

@@ -1,7 +1,7 @@
 -- Tables that change entry by entry, and the marks of each step.
 use Prim.Native.Nat.{ℕ, ◌+◌, ◌*◌, ◌-◌, ◌≤◌, ◌<◌}
 use mathlib.Core.Path.{◌≡◌, refl, sym, ap, ◌∙◌, subst}
-use mathlib.Core.Logic.{◌≢◌, ◌⊎◌, inl, inr, ⊎_elim}
+use mathlib.Core.Logic.{◌⊎◌, inl, inr, ⊎_elim}
 use mathlib.Core.Bool.{true, false}
 use mathlib.Core.List.{List}
 use native.Mathlib.Omega.{arith}
@@ -12,15 +12,13 @@ use lib.Bits.{bit_and}
 use Rattle.chip.specs.Netlist.{all_pins}
 use Rattle.chip.specs.Pads.{branch_of}
 use Rattle.chip.specs.Inner.Tables.{tabled, BranchTable}
-use Rattle.chip.specs.Class.{tally}
 use Rattle.chip.specs.Search.{digit}
 use Rattle.chip.proofs.Basics.{reach_in, reach_out}
 use Rattle.chip.proofs.Bools.{clash, passes}
 use Rattle.levels.specs.Levels.{PinMasks}
-use Rattle.slots.specs.Slots.{rel_of}
 use Rattle.words.proofs.Bits.{digit_zero}
 use Rattle.rows.proofs.Bits.{split, meet}
-use Rattle.spots.specs.Marks.{Changed, BlockMark, RowMark, ListMark, SpotMark, PinMark, LevelMark, DepthMark, OneMark}
+use Rattle.spots.specs.Marks.{Changed, RowMark, ListMark, SpotMark, PinMark, LevelMark, DepthMark, OneMark}
 
 -- nothing is marked, and nothing changed
 pub changed_none : (P : ℕ → ℕ → Type 0) (a : List ℕ) → ((q v : ℕ) → ¬ P q v) → Changed P a a
@@ -63,52 +61,8 @@ changed_set a at v l =
     same : (q : ℕ) → q ≡ at → get_or (set a at v) q 0 ≡ v
     same q e = ap (λ k. get_or (set a at v) k 0) e ∙ get_or-set_same a at v 0 l
 
--- a block is listed, or is not among the first 16
-pub block_put : (z w s : ℕ) (a : List ℕ) → w < 16 → 16 * z + w < length a → Changed (BlockMark z w s) a (set a (16 * z + w) s)
-block_put z w s a l h =
-    changed_same (Single (16 * z + w) s) (BlockMark z w s) a (set a (16 * z + w) s)
-    (λ q v m. record { here = m.at; value = m.is })
-    (λ q v m. record { few = l; at = m.here; is = m.value }) (changed_set a (16 * z + w) s h)
-
-pub block_not : (z w s : ℕ) (a : List ℕ) → 16 ≤ w → Changed (BlockMark z w s) a a
-block_not z w s a l = changed_none (BlockMark z w s) a (λ q v m. let h : w < 16 = m.few in omega arith)
-
--- the blocks of an output, one block more
-module _ (z : ℕ) (reached : List ℕ) where
-  pub row_start : (a : List ℕ) → Changed (RowMark 0 z reached) a a
-  row_start a = changed_none (RowMark 0 z reached) a (λ q v m. let h : v < 0 = m.block in omega arith)
-
-  row_wide : (k q v : ℕ) → RowMark k z reached q v → RowMark (k + 1) z reached q v
-  row_wide k q v m = record { block = omega (arith, m.block); reaches = m.reaches; few = m.few; at = m.at }
-
-  pub row_yes : (k w : ℕ) (a b c : List ℕ) → w ≡ tally (rel_of reached z) k → rel_of reached z k ≡ true → Changed (BlockMark z w k) b c
-      → Changed (RowMark k z reached) a b → Changed (RowMark (k + 1) z reached) a c
-  row_yes k w a b c e t D C =
-      changed_both (RowMark k z reached) (BlockMark z w k) (RowMark (k + 1) z reached) a b c
-      (λ q v m. elim (dec_lt v k) [
-        | yes l ↦ inl (record { block = l; reaches = m.reaches; few = m.few; at = m.at })
-        | no g ↦
-            let h : v ≡ k = omega (arith, m.block) in
-            inr (record { few = rw (e, ← h) m.few; at = rw (e, ← h) m.at; is = h })
-      ])
-      (row_wide k)
-      (λ q v m.
-      let h : v ≡ k = m.is in
-      record { block = omega arith; reaches = rw h t; few = rw h (rw (← e) m.few); at = rw h (rw (← e) m.at) }) C D
-
-  pub row_no : (k : ℕ) (a b : List ℕ) → rel_of reached z k ≡ false → Changed (RowMark k z reached) a b → Changed (RowMark (k + 1) z reached) a b
-  row_no k a b f C =
-      changed_same (RowMark k z reached) (RowMark (k + 1) z reached) a b
-      (λ q v m.
-      let less : v < k = elim (dec_lt v k) [ yes l ↦ l | no g ↦ let h : v ≡ k = omega (arith, m.block) in clash (rw h at m.reaches) f ] in
-      record { block = less; reaches = m.reaches; few = m.few; at = m.at })
-      (row_wide k) C
-
 -- the outputs, one more: it is in the word, or it is not
 module _ (b outs : ℕ) (reached : List ℕ) where
-  pub list_start : (a : List ℕ) → Changed (ListMark b 0 outs reached) a a
-  list_start a = changed_none (ListMark b 0 outs reached) a (λ q v m. omega (arith, m.below))
-
   list_wide : (y q v : ℕ) → ListMark b y outs reached q v → ListMark b (y + 1) outs reached q v
   list_wide y q v m = record { out = m.out; below = omega (arith, m.below); among = m.among; row = m.row }
 
@@ -130,42 +84,12 @@ module _ (b outs : ℕ) (reached : List ℕ) where
       record { out = m.out; below = less; among = m.among; row = m.row })
       (list_wide y) C
 
--- the places of a block of an output, one number more
-module _ (z s t : ℕ) (lists : List ℕ) where
-  pub spot_start : (a : List ℕ) → Changed (SpotMark 0 z s t lists) a a
-  spot_start a = changed_none (SpotMark 0 z s t lists) a (λ q v m. omega (arith, m.from, m.to))
-
-  spot_wide : (k q v : ℕ) → SpotMark k z s t lists q v → SpotMark (k + 1) z s t lists q v
-  spot_wide k q v m = record { from = m.from; to = omega (arith, m.to); block = m.block; is = m.is }
-
-  pub spot_yes : (k : ℕ) (a b : List ℕ) → 16 * z + k < length b → get_or lists (16 * z + k) 0 ≡ s → Changed (SpotMark k z s t lists) a b
-      → Changed (SpotMark (k + 1) z s t lists) a (set b (16 * z + k) t)
-  spot_yes k a b l e C =
-      changed_both (SpotMark k z s t lists) (Single (16 * z + k) t) (SpotMark (k + 1) z s t lists) a b (set b (16 * z + k) t)
-      (λ q v m. elim (dec_lt q (16 * z + k)) [
-        | yes h ↦ inl (record { from = m.from; to = h; block = m.block; is = m.is })
-        | no g ↦ inr (record { here = omega (arith, m.to); value = m.is })
-      ])
-      (spot_wide k)
-      (λ q v m. let h : q ≡ 16 * z + k = m.here in record { from = omega arith; to = omega arith; block = rw h e; is = m.value }) C (changed_set b (16 * z + k) t l)
-
-  pub spot_no : (k : ℕ) (a b : List ℕ) → get_or lists (16 * z + k) 0 ≢ s → Changed (SpotMark k z s t lists) a b → Changed (SpotMark (k + 1) z s t lists) a b
-  spot_no k a b g C =
-      changed_same (SpotMark k z s t lists) (SpotMark (k + 1) z s t lists) a b
-      (λ q v m.
-      let less : q < 16 * z + k = elim (dec_lt q (16 * z + k)) [ yes l ↦ l | no n ↦ let h : q ≡ 16 * z + k = omega (arith, m.to) in absurd (g (rw h at m.block)) ] in
-      record { from = m.from; to = less; block = m.block; is = m.is })
-      (spot_wide k) C
-
 -- the outputs in a word, one more
 module _ (s t : ℕ) (lists : List ℕ) where
   pub pin_zero : (o word : ℕ) (a : List ℕ) → word ≡ 0 → Changed (PinMark o word s t lists) a a
   pin_zero o word a e = changed_none (PinMark o word s t lists) a (λ q v m. clash m.reached (rw e (digit_zero m.out)))
 
   module _ (word : ℕ) where
-    pub pin_start : (a : List ℕ) → Changed (PinMark 0 word s t lists) a a
-    pin_start a = changed_none (PinMark 0 word s t lists) a (λ q v m. omega (arith, m.below))
-
     pin_wide : (y q v : ℕ) → PinMark y word s t lists q v → PinMark (y + 1) word s t lists q v
     pin_wide y q v m = record { out = m.out; below = omega (arith, m.below); reached = m.reached; spot = m.spot }
 
@@ -190,9 +114,6 @@ module _ (s t : ℕ) (lists : List ℕ) where
 
 -- the pins of a depth, one more
 module _ (i o from outs : ℕ) (branches block words lists : List ℕ) where
-  pub level_start : (a : List ℕ) → Changed (LevelMark i o 0 from outs branches block words lists) a a
-  level_start a = changed_none (LevelMark i o 0 from outs branches block words lists) a (λ q v m. omega (arith, m.below))
-
   level_wide : (p q v : ℕ) → LevelMark i o p from outs branches block words lists q v → LevelMark i o (p + 1) from outs branches block words lists q v
   level_wide p q v m = record { pin = m.pin; below = omega (arith, m.below); branch = m.branch; mark = m.mark }
 
@@ -267,9 +188,6 @@ module _ (i c o : ℕ) (kinds counts nets branches block lists : List ℕ) (d ou
 
 -- the ones of a pattern, one bit more
 module _ (z m : ℕ) (spots : List ℕ) where
-  pub ones_start : (a : List ℕ) → Changed (OneMark 0 z m spots) a a
-  ones_start a = changed_none (OneMark 0 z m spots) a (λ q v x. omega (arith, x.below))
-
   ones_wide : (k q v : ℕ) → OneMark k z m spots q v → OneMark (k + 1) z m spots q v
   ones_wide k q v x = record { number = x.number; below = omega (arith, x.below); on = x.on; at = x.at; is = x.is }
 

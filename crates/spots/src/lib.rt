@@ -9,8 +9,9 @@ ghost use Rattle.spots.specs.Spots.{Drivers, RowHolds, Spread, BlockSpots};
 
 use chip::{
     ALL_NETS, Block, Branches, Counts, Firsts, Kinds, Nets, Order, PINS, PinWords, Reached, Sizes,
-    VARIABLES, VariableTable, wide,
+    VARIABLES, VariableTable,
 };
+use order::Sorted;
 use structure::Shape;
 
 // Lists block s as number w of output z, if that is one of the first 16.
@@ -29,13 +30,11 @@ fn list_row(b: usize, z: usize, reached: &Reached, lists: &mut [u16])
     ensures { Changed (RowMark b z reached.now) lists.old lists.new }
 {
     let mut w = 0;
-    let mut k = 0;
-    while k < b {
-        if words::has_bit(reached[k], z) {
+    for (k, &outs) in reached[..b].iter().enumerate() {
+        if words::has_bit(outs, z) {
             list_block(z, w, k, lists);
             w += 1;
         }
-        k += 1;
     }
 }
 
@@ -44,12 +43,10 @@ fn list_blocks(o: usize, b: usize, outs: u64, reached: &Reached, lists: &mut [u1
     requires { (o ≤ 64) × (b ≤ 4160) × (length lists.old ≡ 1024) }
     ensures { Changed (ListMark b o outs reached.now) lists.old lists.new }
 {
-    let mut z = 0;
-    while z < o {
+    for z in 0..o {
         if words::has_bit(outs, z) {
             list_row(b, z, reached, lists);
         }
-        z += 1;
     }
 }
 
@@ -58,12 +55,10 @@ fn put_spot(z: usize, s: usize, place: u16, lists: &VariableTable, spots: &mut [
     requires { (z < 64) × (length spots.old ≡ 1024) }
     ensures { Changed (SpotMark 16 z s place lists.now) spots.old spots.new }
 {
-    let mut k = 0;
-    while k < 16 {
-        if wide(lists[16 * z + k]) == s {
+    for k in 0..16 {
+        if usize::from(lists[16 * z + k]) == s {
             spots[16 * z + k] = place;
         }
-        k += 1;
     }
 }
 
@@ -75,12 +70,10 @@ fn put_outputs(o: usize, word: u64, s: usize, place: u16, lists: &VariableTable,
     if word == 0 {
         return;
     }
-    let mut z = 0;
-    while z < o {
+    for z in 0..o {
         if words::has_bit(word, z) {
             put_spot(z, s, place, lists, spots);
         }
-        z += 1;
     }
 }
 
@@ -99,21 +92,18 @@ fn put_level(
     ensures { Changed (LevelMark z.inputs z.outputs z.pins from outs branches.now block.now words.now lists.now) spots.old spots.new }
 {
     let i = z.inputs;
-    let n = z.pins;
-    let mut p = 0;
-    while p < n {
-        let x = wide(branches[p]);
+    for p in 0..z.pins {
+        let x = usize::from(branches[p]);
         if x < i {
             put_outputs(
                 z.outputs,
                 words[p] & outs,
-                wide(block[p]),
+                usize::from(block[p]),
                 (from + x) as u16,
                 lists,
                 spots,
             );
         }
-        p += 1;
     }
 }
 
@@ -137,29 +127,22 @@ fn put_depths(
 {
     let i = z.inputs;
     let d = s.depth;
+    let cells = Sorted {
+        sizes: z,
+        kinds,
+        counts,
+        nets,
+        firsts,
+        order,
+    };
     let mut before = [0u64; ALL_NETS];
     let mut at_net = [0u64; ALL_NETS];
     let mut words = [0u64; PINS];
-    let mut e = 0;
-    while e <= d {
-        levels::level(
-            i,
-            z.cells,
-            z.outputs,
-            e,
-            kinds,
-            counts,
-            firsts,
-            nets,
-            order,
-            &before,
-            &mut words,
-            &mut at_net,
-        );
+    for e in 0..=d {
+        levels::level(cells, e, &before, &mut words, &mut at_net);
         let t = d - e;
         put_level(z, t * i, outs, branches, block, &words, lists, spots);
         before = at_net;
-        e += 1;
     }
 }
 
@@ -196,12 +179,10 @@ fn put_ones(z: usize, m: u64, spots: &VariableTable, play: &mut [u8])
     requires by_index { (k : ℕ) → digit k m ≡ true → get_or spots.now (16 * z + k) 0 < length play.old }
     ensures { Changed (OneMark 16 z m spots.now) play.old play.new }
 {
-    let mut k = 0;
-    while k < 16 {
+    for k in 0..16 {
         if words::has_bit(m, k) {
-            play[wide(spots[16 * z + k])] = 1;
+            play[usize::from(spots[16 * z + k])] = 1;
         }
-        k += 1;
     }
 }
 

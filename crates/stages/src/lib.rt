@@ -9,9 +9,8 @@ pub fn left_at(net: usize, pin: usize, n: usize, left: &[u64]) -> u64
     requires { (net < pin) × (pin + n ≤ 5184) × (length left.now ≡ 10368) }
     ensures { Covers net pin n left.now result }
 {
-    let mut x = left[2 * net] | left[2 * net + 1];
-    for k in 0..n {
-        x = x | left[2 * (pin + k)] | left[2 * (pin + k) + 1];
-    }
-    x
+    let own = left[2 * net] | left[2 * net + 1];
+    left[2 * pin..2 * (pin + n)]
+        .iter()
+        .fold(own, |all, outs| all | outs)
 }

@@ -1,6 +1,6 @@
 -- The steps of preparing a chip, and that their results are a chip that is prepared.
 use Prim.Native.Nat.{ℕ, ◌≤◌, ◌<◌}
-use mathlib.Core.Path.{◌≡◌, refl, subst}
+use mathlib.Core.Path.{◌≡◌, refl}
 use mathlib.Core.List.{List}
 use native.Mathlib.Omega.{arith}
 use native.Mathlib.Decide.{dec_lt}
@@ -11,9 +11,6 @@ use Rattle.chip.specs.Inner.Tables.{FirstPins, BranchTable}
 use Rattle.chip.specs.Class.{Branch, Lowest, blocks}
 use Rattle.chip.proofs.Blocks.{in_block}
 use Rattle.order.specs.Order.{Ordered}
-use Rattle.order.specs.Settled.{LoopFrom, Settled}
-use Rattle.order.specs.declared.Ordering.{Ordering}
-use Rattle.order.specs.declared.Ordering.TheVariants.{Done, Loop}
 use Rattle.order.proofs.Order.{order_free, ranked_of}
 use Rattle.chip.proofs.Plain.{within_branches}
 use Rattle.levels.specs.Branches.{Branched}
@@ -21,26 +18,9 @@ use Rattle.levels.proofs.Branches.{entry_branch}
 use Rattle.blocks.specs.Labels.{Numbered}
 use Rattle.blocks.proofs.Numbers.{counted_few}
 use Rattle.balance.specs.Balance.{FewLabels, LowestUneven}
-use Rattle.chip.specs.Refusals.{When10}
-use Rattle.structure.specs.Inner.Shape.{OneInput, DepthFound, DepthIs, Evened, Classified, Shaped}
-use Rattle.structure.specs.declared.Measured.{Measured}
-use Rattle.structure.specs.declared.Depths.{Depths}
-use Rattle.structure.specs.declared.Depths.TheVariants.{Is, Over}
+use Rattle.structure.specs.Inner.Shape.{OneInput, DepthFound, Evened, Classified, Shaped}
 use Rattle.structure.proofs.Evenness.{blocks_own, place_11}
 use Rattle.structure.proofs.ClassNumber.{class_is, reach_mask}
-
--- what the order and the depth said, once the answer is known
-pub settled_loop : (N : Netlist) (order : List ℕ) (r : Ordering) (j : ℕ) → Settled N order r → r ≡ Loop j → LoopFrom N j
-settled_loop N order r j s e = subst (Settled N order) e s
-
-pub settled_done : (N : Netlist) (order : List ℕ) (r : Ordering) → Settled N order r → r ≡ Done → Ordered N order
-settled_done N order r s e = subst (Settled N order) e s
-
-pub depth_over : (N : Netlist) (branches : List ℕ) (low : ℕ → ℕ) (r : Depths) (z : ℕ) → DepthIs N branches low r → r ≡ Over z → When10 N z
-depth_over N branches low r z s e = subst (DepthIs N branches low) e s
-
-pub depth_of : (N : Netlist) (branches : List ℕ) (low : ℕ → ℕ) (r : Depths) (m : Measured) → DepthIs N branches low r → r ≡ Is m → DepthFound N low m.depth × LowestUneven N branches m.input
-depth_of N branches low r m s e = subst (DepthIs N branches low) e s
 
 -- labels are few
 module _ (N : Netlist) (L : InLimits N) (low : ℕ → ℕ) (K : Lowest N low) (table : List ℕ) (count : ℕ) (n : Numbered N low table count) where

@@ -6,6 +6,7 @@ ghost use Rattle.chip.specs.Inner.Limits.{InLimits};
 ghost use Rattle.chip.specs.Inner.Tables.{sized};
 ghost use Rattle.chip.specs.Class.{Within};
 ghost use Rattle.order.specs.Order.{Ordered};
+ghost use Rattle.order.specs.Sorted.{netlist_in};
 ghost use Rattle.levels.specs.Levels.{MasksBefore, LevelMasks};
 ghost use Rattle.levels.specs.Branches.{Branched};
 ghost use Rattle.chip.specs.Inner.Labels.{Labels};
@@ -15,40 +16,25 @@ ghost use Rattle.structure.specs.Inner.Shape.{InOrder, OneInput, Deeper, DepthIs
 
 use chip::{
     ALL_NETS, Block, Branches, Counts, Firsts, INPUTS, Kinds, NetWords, Nets, Order, PINS,
-    PinWords, Reached, Sizes,
+    PinWords, Reached, Reason, Refusal, Sizes,
 };
-use order::Ordering;
+use order::Sorted;
 
 // The depth, and the lowest input that reaches an output with two depths, or the number of inputs if none does.
-#[derive(Clone, Copy)]
+#[derive(Clone, Copy, Debug, PartialEq, Eq)]
 pub struct Measured {
     pub depth: usize,
     pub input: usize,
 }
 
-// These, or the lowest output that is deeper than 255.
-#[derive(Clone, Copy)]
-pub enum Depths {
-    Is(Measured),
-    Over(usize),
-}
-
 // What is worked out of a netlist: its depth, its class, the number of its blocks,
 // and for class 1 the lowest input with a block of two depths to one output.
-#[derive(Clone, Copy)]
+#[derive(Clone, Copy, Debug, PartialEq, Eq)]
 pub struct Shape {
     pub depth: usize,
     pub class: u8,
     pub blocks: usize,
     pub place: usize,
-}
-
-// A netlist with a loop, with the lowest net that reaches itself; one with an output that is too deep; or a chip that is prepared.
-#[derive(Clone, Copy)]
-pub enum Found {
-    Looped(usize),
-    TooDeep(usize),
-    Chip(Shape),
 }
 
 // Joins the branches that reach one output at the depth whose masks the pins and nets have; there are none where no input's net
@@ -75,53 +61,34 @@ fn join_inputs(
 
 // One depth further: the masks at depth e, and the branches joined that reach one output at it. The answer is the outputs reached.
 fn deeper(
-    z: Sizes,
+    cells: Sorted<'_>,
     e: usize,
-    kinds: &Kinds,
-    counts: &Counts,
-    firsts: &Firsts,
-    nets: &Nets,
-    order: &Order,
     branches: &Branches,
     before: &NetWords,
     after: &mut NetWords,
     pins: &mut PinWords,
     low: &mut Block,
 ) -> u64
-    requires in_order { InOrder (sized z kinds.now counts.now nets.now) z.pins firsts.now order.now branches.now }
-    requires masks_before { MasksBefore (sized z kinds.now counts.now nets.now) e before.now }
-    requires labels { Labels (sized z kinds.now counts.now nets.now) (label_of (sized z kinds.now counts.now nets.now) low.old) }
-    ensures { Deeper (sized z kinds.now counts.now nets.now) e after.new
-        (label_of (sized z kinds.now counts.now nets.now) low.old)
-        (label_of (sized z kinds.now counts.now nets.now) low.new) result }
+    requires in_order { InOrder cells branches.now }
+    requires masks_before { MasksBefore (netlist_in cells) e before.now }
+    requires labels { Labels (netlist_in cells) (label_of (netlist_in cells) low.old) }
+    ensures { Deeper (netlist_in cells.entry) e after.new
+        (label_of (netlist_in cells.entry) low.old)
+        (label_of (netlist_in cells.entry) low.new) result }
 {
-    let i = z.inputs;
-    let c = z.cells;
-    let o = z.outputs;
-    levels::level(
-        i, c, o, e, kinds, counts, firsts, nets, order, before, pins, after,
-    );
-    join_inputs(i, o, z.pins, branches, after, pins, low);
-    levels::any_net(i + c, after)
+    let z = cells.sizes;
+    levels::level(cells, e, before, pins, after);
+    join_inputs(z.inputs, z.outputs, z.pins, branches, after, pins, low);
+    levels::any_net(z.inputs + z.cells, after)
 }
 
-// The depth, with the blocks joined on the way, and the lowest input that reaches an output with two depths.
-fn join_blocks(
-    z: Sizes,
-    kinds: &Kinds,
-    counts: &Counts,
-    firsts: &Firsts,
-    nets: &Nets,
-    order: &Order,
-    branches: &Branches,
-    low: &mut Block,
-) -> Depths
-    requires { InOrder (sized z kinds.now counts.now nets.now) z.pins firsts.now order.now branches.now }
-    ensures { DepthIs (sized z kinds.now counts.now nets.now) branches.now
-        (label_of (sized z kinds.now counts.now nets.now) low.new) result }
+// The depth, with the blocks joined on the way, and the lowest input that reaches an output with two depths. Refuses 10.
+fn join_blocks(cells: Sorted<'_>, branches: &Branches, low: &mut Block) -> Result<Measured, Refusal>
+    requires { InOrder cells branches.now }
+    ensures { DepthIs (netlist_in cells.entry) branches.now
+        (label_of (netlist_in cells.entry) low.new) result }
 {
-    let i = z.inputs;
-    let c = z.cells;
+    let (i, c) = (cells.sizes.inputs, cells.sizes.cells);
     let mut before = [0u64; ALL_NETS];
     let mut after = [0u64; ALL_NETS];
     let mut pins = [0u64; PINS];
@@ -130,17 +97,15 @@ fn join_blocks(
     blocks::single_labels(low);
     let mut e = 0;
     loop {
-        let outs = deeper(
-            z, e, kinds, counts, firsts, nets, order, branches, &before, &mut after, &mut pins, low,
-        );
+        let outs = deeper(cells, e, branches, &before, &mut after, &mut pins, low);
         if outs == 0 {
-            return Depths::Is(Measured {
+            return Ok(Measured {
                 depth: e - 1,
                 input: lowest,
             });
         }
         if e == 256 {
-            return Depths::Over(words::lowest_bit(outs));
+            return Err(Reason::TooDeep.at(words::lowest_bit(outs)));
         }
         lowest = balance::meet_inputs(i, lowest, &after, &mut seen);
         levels::keep(i + c, &after, &mut before);
@@ -177,96 +142,83 @@ fn uneven_at(
 // The lowest input with branches of one label that reach one output with two depths; the number of inputs if there is none.
 // Afterwards `seen`, which begins with zeros, has the outputs that each label reaches.
 fn lowest_uneven(
-    z: Sizes,
+    cells: Sorted<'_>,
     d: usize,
-    kinds: &Kinds,
-    counts: &Counts,
-    firsts: &Firsts,
-    nets: &Nets,
-    order: &Order,
     branches: &Branches,
     labels: &Block,
     seen: &mut Reached,
 ) -> usize
-    requires in_order { InOrder (sized z kinds.now counts.now nets.now) z.pins firsts.now order.now branches.now }
-    requires d_bound { (d ≤ 255) × Within (sized z kinds.now counts.now nets.now) d }
-    requires few_labels { FewLabels z.inputs z.pins branches.now labels.now }
-    requires one_input { OneInput (sized z kinds.now counts.now nets.now) labels.now }
+    requires in_order { InOrder cells branches.now }
+    requires d_bound { (d ≤ 255) × Within (netlist_in cells) d }
+    requires few_labels { FewLabels cells.sizes.inputs cells.sizes.pins branches.now labels.now }
+    requires one_input { OneInput (netlist_in cells) labels.now }
     requires by_index { (l : ℕ) → l < 4160 → get_or seen.old l 0 ≡ 0 }
-    ensures { Evened (sized z kinds.now counts.now nets.now) labels.now d seen.new result }
+    ensures { Evened (netlist_in cells.entry) labels.now d seen.new result }
 {
-    let i = z.inputs;
-    let c = z.cells;
+    let (i, c) = (cells.sizes.inputs, cells.sizes.cells);
     let mut before = [0u64; ALL_NETS];
     let mut after = [0u64; ALL_NETS];
     let mut pins = [0u64; PINS];
     let mut lowest = i;
-    let mut e = 0;
-    while e <= d {
-        levels::level(
-            i, c, z.outputs, e, kinds, counts, firsts, nets, order, &before, &mut pins, &mut after,
+    for e in 0..d + 1 {
+        levels::level(cells, e, &before, &mut pins, &mut after);
+        lowest = uneven_at(
+            i,
+            cells.sizes.pins,
+            lowest,
+            branches,
+            &after,
+            &pins,
+            labels,
+            seen,
         );
-        lowest = uneven_at(i, z.pins, lowest, branches, &after, &pins, labels, seen);
         levels::keep(i + c, &after, &mut before);
-        e += 1;
     }
     lowest
 }
 
 // Each label is seen at the outputs that a branch with it reaches, at whatever depth.
-fn see_all<'a>(
-    z: Sizes,
-    kinds: &'a Kinds,
-    counts: &'a Counts,
-    firsts: &'a Firsts,
-    nets: &'a Nets,
-    order: &'a Order,
-    branches: &Branches,
-    labels: &Block,
-    seen: &mut Reached,
-)
-    requires in_order { InOrder (sized z kinds.now counts.now nets.now) z.pins firsts.now order.now branches.now }
-    requires few_labels { FewLabels z.inputs z.pins branches.now labels.now }
+fn see_all(cells: Sorted<'_>, branches: &Branches, labels: &Block, seen: &mut Reached)
+    requires in_order { InOrder cells branches.now }
+    requires few_labels { FewLabels cells.sizes.inputs cells.sizes.pins branches.now labels.now }
     requires by_index { (l : ℕ) → l < 4160 → get_or seen.old l 0 ≡ 0 }
-    ensures { (d : ℕ) → Within (sized z kinds.now counts.now nets.now) d → SeenMasks (sized z kinds.now counts.now nets.now) labels.now (suc d) seen.new }
+    ensures { (d : ℕ) → Within (netlist_in cells.entry) d → SeenMasks (netlist_in cells.entry) labels.now (suc d) seen.new }
 {
     let mut pins = [0u64; PINS];
-    levels::reach_masks(
-        z.inputs, z.cells, z.outputs, kinds, counts, firsts, nets, order, &mut pins,
+    levels::reach_masks(cells, &mut pins);
+    balance::see(
+        cells.sizes.inputs,
+        cells.sizes.pins,
+        branches,
+        &pins,
+        labels,
+        seen,
     );
-    balance::see(z.inputs, z.pins, branches, &pins, labels, seen);
 }
 
 // `lowest_uneven` for the blocks, given the lowest input x that reaches an output with two depths: where there is none, no
 // block does, and only the outputs that each block reaches are wanted.
-fn uneven_block<'a>(
-    z: Sizes,
+fn uneven_block(
+    cells: Sorted<'_>,
     d: usize,
     x: usize,
-    kinds: &'a Kinds,
-    counts: &'a Counts,
-    firsts: &'a Firsts,
-    nets: &'a Nets,
-    order: &'a Order,
     branches: &Branches,
     block: &Block,
     seen: &mut Reached,
 ) -> usize
-    requires in_order { InOrder (sized z kinds.now counts.now nets.now) z.pins firsts.now order.now branches.now }
-    requires d_bound { (d ≤ 255) × Within (sized z kinds.now counts.now nets.now) d }
-    requires few_labels { FewLabels z.inputs z.pins branches.now block.now }
-    requires one_input { OneInput (sized z kinds.now counts.now nets.now) block.now }
+    requires in_order { InOrder cells branches.now }
+    requires d_bound { (d ≤ 255) × Within (netlist_in cells) d }
+    requires few_labels { FewLabels cells.sizes.inputs cells.sizes.pins branches.now block.now }
+    requires one_input { OneInput (netlist_in cells) block.now }
     requires by_index { (l : ℕ) → l < 4160 → get_or seen.old l 0 ≡ 0 }
-    requires lowest_uneven { LowestUneven (sized z kinds.now counts.now nets.now) branches.now x }
-    ensures { Evened (sized z kinds.now counts.now nets.now) block.now d seen.new result }
+    requires lowest_uneven { LowestUneven (netlist_in cells) branches.now x }
+    ensures { Evened (netlist_in cells.entry) block.now d seen.new result }
 {
-    let i = z.inputs;
+    let i = cells.sizes.inputs;
     if x < i {
-        return lowest_uneven(
-            z, d, kinds, counts, firsts, nets, order, branches, block, seen,
-        );
+        return lowest_uneven(cells, d, branches, block, seen);
     }
-    see_all(z, kinds, counts, firsts, nets, order, branches, block, seen);
+    see_all(cells, branches, block, seen);
     i
 }
 
@@ -275,45 +227,34 @@ fn classify(i: usize, block: usize, input: usize) -> u8
     ensures { Classified i block input result }
 {
     if block < i {
-        return 1;
+        1
+    } else if input < i {
+        2
+    } else {
+        3
     }
-    if input < i {
-        return 2;
-    }
-    3
 }
 
 // Prepares a chip whose cells are in order and whose branches are known: its depth, its blocks, what they reach, and its class.
-fn prepare_ordered<'a>(
-    z: Sizes,
-    kinds: &'a Kinds,
-    counts: &'a Counts,
-    firsts: &'a Firsts,
-    nets: &'a Nets,
-    order: &'a Order,
-    branches: &'a Branches,
+// Refuses 10.
+fn prepare_ordered(
+    cells: Sorted<'_>,
+    branches: &Branches,
     block: &mut Block,
     reached: &mut Reached,
-) -> Found
-    requires in_order { InOrder (sized z kinds.now counts.now nets.now) z.pins firsts.now order.now branches.now }
+) -> Result<Shape, Refusal>
+    requires in_order { InOrder cells branches.now }
     requires by_index { (l : ℕ) → l < 4160 → get_or reached.old l 0 ≡ 0 }
-    ensures { FoundIs (sized z kinds.now counts.now nets.now) firsts.now order.now branches.now block.new reached.new result }
+    ensures { FoundIs (netlist_in cells.entry) cells.entry.firsts.now cells.entry.order.now branches.now block.new reached.new result }
 {
-    let i = z.inputs;
+    let i = cells.sizes.inputs;
     let mut low = [0u16; PINS];
-    let w = match join_blocks(z, kinds, counts, firsts, nets, order, branches, &mut low) {
-        Depths::Over(y) => {
-            return Found::TooDeep(y);
-        }
-        Depths::Is(w) => w,
-    };
+    let w = join_blocks(cells, branches, &mut low)?;
     let d = w.depth;
     let x = w.input;
-    let b = blocks::number_blocks(i, z.pins, branches, &low, block);
-    let y = uneven_block(
-        z, d, x, kinds, counts, firsts, nets, order, branches, block, reached,
-    );
-    Found::Chip(Shape {
+    let b = blocks::number_blocks(i, cells.sizes.pins, branches, &low, block);
+    let y = uneven_block(cells, d, x, branches, block, reached);
+    Ok(Shape {
         depth: d,
         class: classify(i, y, x),
         blocks: b,
@@ -321,7 +262,7 @@ fn prepare_ordered<'a>(
     })
 }
 
-// Prepares a chip from the tables of a netlist that was read.
+// Prepares a chip from the tables of a netlist that was read. Refuses 9 and 10.
 // Open: the order, entries past what is in use, the place of 11 in class 2 and 3; all tables of a refused netlist: so the steps leave them, and of a refused netlist nobody reads them.
 pub fn prepare<'a>(
     z: Sizes,
@@ -333,7 +274,7 @@ pub fn prepare<'a>(
     branches: &'a mut Branches,
     block: &mut Block,
     reached: &mut Reached,
-) -> Found
+) -> Result<Shape, Refusal>
     requires in_limits { InLimits (sized z kinds.now counts.now nets.now) }
     requires pins_value { z.pins ≡ all_pins (sized z kinds.now counts.now nets.now) }
     requires by_index { (l : ℕ) → l < 4160 → get_or reached.old l 0 ≡ 0 }
@@ -342,16 +283,18 @@ pub fn prepare<'a>(
     let i = z.inputs;
     let c = z.cells;
     order::first_pins(counts, c, firsts);
-    match order::order_cells(i, c, firsts, nets, order) {
-        Ordering::Loop(j) => {
-            return Found::Looped(loops::lowest_on_loop(i, c, firsts, nets, j));
-        }
-        Ordering::Done => {}
+    if let Err(unplaced) = order::order_cells(i, c, firsts, nets, order) {
+        let net = loops::lowest_on_loop(i, c, firsts, nets, unplaced.cell);
+        return Err(Reason::Looped.at(net));
     }
-    pads::branches(
-        i, c, z.outputs, z.pins, kinds, counts, firsts, nets, order, branches,
-    );
-    prepare_ordered(
-        z, kinds, counts, firsts, nets, order, branches, block, reached,
-    )
+    let cells = Sorted {
+        sizes: z,
+        kinds,
+        counts,
+        nets,
+        firsts,
+        order,
+    };
+    pads::branches(cells, branches);
+    prepare_ordered(cells, branches, block, reached)
 }

@@ -16,7 +16,6 @@ use Rattle.chip.specs.Transformed.{old_cell, copies, transformed}
 use Rattle.chip.specs.File.{file_of, transformed_file}
 use Rattle.chip.specs.Refusals.{goes_on, Opens, read, opened, prepared}
 use Rattle.chip.specs.Replies.{TransformOn, TransformReply}
-use Rattle.chip.specs.declared.Transformed.TheVariants.{Written}
 use Rattle.chip.proofs.Basics.{Ranked, Counted, sum_up, takes_flat, flat_known}
 use Rattle.chip.proofs.Blocks.{counted}
 use Rattle.chip.proofs.Copies.{out_moved}
@@ -141,21 +140,21 @@ module _ (N : Netlist) (L : InLimits N) (free : LoopFree N) (low : ℕ → ℕ) 
               ∙ file_same (transformed T (blocks T low')) T (twice N L.sound R quiet low W low' W') (λ b. b + 1) (λ k. B.count + 1 + k);
         }
 
-again_written : (N : Netlist) → InLimits N → NoFlopAtPad N → (entry : List ℕ) {n : ℕ} {exit : List ℕ} → TransformOn N entry (Written n, exit)
-    → (entry' : List ℕ) → n ≤ length entry' → TransformReply (take n exit) entry' (Written n, take n exit ++ drop n entry')
+again_written : (N : Netlist) → InLimits N → NoFlopAtPad N → (entry : List ℕ) {n : ℕ} {exit : List ℕ} → TransformOn N entry (got n, exit)
+    → (entry' : List ℕ) → n ≤ length entry' → TransformReply (take n exit) entry' (got n, take n exit ++ drop n entry')
 again_written N L quiet entry {n} {exit} (prepared {low = low} P c) entry' h =
     let (few, e, w) = circuit_written N (blocks N low) entry c in
     let A : Again N low = again N L P.loop_free low P.lowest few quiet in
     let F : List ℕ = transformed_file N (blocks N low) in
-    let r : TransformReply F entry' (Written (length F), F ++ drop (length F) entry') =
-    subst (λ l. TransformReply F entry' (Written (length l), l ++ drop (length l) entry')) A.same
+    let r : TransformReply F entry' (got (length F), F ++ drop (length F) entry') =
+    subst (λ l. TransformReply F entry' (got (length l), l ++ drop (length l) entry')) A.same
     (opened A.opens (prepared A.known (writes_on A.netlist (blocks A.netlist A.low') entry' A.writable (record { room = rw (A.same, sym e) h; now_is = refl })))) in
     let t : take n exit ≡ F = rw (w.now_is, e) (take-append_seam F (drop (length F) entry)) in
     rw (t, e) r
 
 -- Transforming the result of a transform returns the same bytes, where no flip-flop is fed by an input or a pad buffer.
-pub transform_again : (file entry : List ℕ) (n : ℕ) (exit : List ℕ) → TransformReply file entry (Written n, exit) → ((N : Netlist) → Opens file (got N) → NoFlopAtPad N)
-    → (entry' : List ℕ) → n ≤ length entry' → TransformReply (take n exit) entry' (Written n, take n exit ++ drop n entry')
+pub transform_again : (file entry : List ℕ) (n : ℕ) (exit : List ℕ) → TransformReply file entry (got n, exit) → ((N : Netlist) → Opens file (got N) → NoFlopAtPad N)
+    → (entry' : List ℕ) → n ≤ length entry' → TransformReply (take n exit) entry' (got n, take n exit ++ drop n entry')
 transform_again file entry n exit r quiet =
     let (N, o, t) = opened_written file entry r in
     again_written N (opened_limits o) (quiet N o) entry t

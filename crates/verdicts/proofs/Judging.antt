@@ -2,12 +2,11 @@
 use Prim.Native.Nat.{ℕ, ◌+◌, ◌-◌, ◌*◌, ◌/◌, ◌≤◌, ◌<◌}
 use mathlib.Core.Path.{◌≡◌, sym, ap, ◌∙◌, subst}
 use mathlib.Core.Bool.{true, false, cond, false≢true}
-use mathlib.Core.List.{List, ◌++◌}
+use mathlib.Core.List.{List}
 use native.Mathlib.Omega.{arith}
 use native.Mathlib.Decide.{ℕ_discrete, dec_lt}
 use borrow.Author.Tests.{le-ltb}
-use lib.ListN.{length, get_or, take, replicate, length-append, length-replicate}
-use lib.Seq.{length-take-le, take_at}
+use lib.ListN.{get_or}
 use lib.Bits.{bit_and}
 use Rattle.chip.specs.Netlist.{Netlist, out_pin, all_pins}
 use Rattle.chip.specs.Inner.Limits.{InLimits}
@@ -21,27 +20,10 @@ use Rattle.slots.specs.Slots.{rel_of}
 use Rattle.walk.specs.Walk.{width_of}
 use Rattle.known.specs.Setting.{Shows}
 use Rattle.outputs.specs.Groups.{Sofar}
-use Rattle.benches.specs.Benches.{Fitted}
 use Rattle.outputs.specs.Sites.{SiteMasks, Widths, WideWord, Started, size_of}
 use Rattle.outputs.proofs.Wide.{not_wide}
 use Rattle.findings.specs.Answered.{Judged}
 use Rattle.verdicts.specs.Verdicts.{Sought, AllSofar}
-
--- ---- readers are the first entries of a table that has room for more
-
-pub part_count : (m : ℕ) (readers : List ℕ) → m ≤ 4096 → length readers ≡ length (take m (replicate {A = ℕ} 4096 0)) → length readers ≡ m
-part_count m readers h e = e ∙ length-take-le m (replicate 4096 0) (omega (arith, h, length-replicate {A = ℕ} 4096 0))
-
-pub part_room : (m : ℕ) (readers rest : List ℕ) → length readers ≡ m → m ≤ length (readers ++ rest)
-part_room m readers rest l = omega (arith, l, length-append readers rest)
-
-pub part_long : (m : ℕ) (readers rest : List ℕ) → length readers ≡ m → m ≡ length (take m (readers ++ rest))
-part_long m readers rest l = sym (ap length (take_at readers rest m l) ∙ l)
-
-pub part_fitted : {i c o n : ℕ} {kinds counts firsts nets order branches block cone reach heads readers input : List ℕ} (m : ℕ) (rest : List ℕ)
-    → Fitted i c o n kinds counts firsts nets order branches block cone reach heads readers input → m ≤ 4096 → length readers ≡ length (take m (replicate {A = ℕ} 4096 0))
-    → Fitted i c o n kinds counts firsts nets order branches block cone reach heads (take m (readers ++ rest)) input
-part_fitted {readers = readers} m rest F h e = rw (take_at readers rest m (part_count m readers h e)) F
 
 -- ---- what is looked for
 

@@ -17,13 +17,8 @@ pub fn width_of(b: usize, z: usize, reached: &Reached) -> usize
     requires { (b ≤ 4160) × (z < 64) }
     ensures { result ≡ width_of b reached.now z }
 {
-    let mut w = 0;
-    let mut k = 0;
-    while k < b {
-        if words::has_bit(reached[k], z) {
-            w += 1;
-        }
-        k += 1;
-    }
-    w
+    reached[..b]
+        .iter()
+        .filter(|outs| words::has_bit(**outs, z))
+        .count()
 }

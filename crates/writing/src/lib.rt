@@ -3,20 +3,19 @@
 ghost use Rattle.std.specs.Prelude.{◌≡◌, List, ◌∷◌, ◌++◌, ℕ, ◌+◌, ◌*◌, ◌≤◌, length, get_or};
 ghost use Rattle.chip.specs.Netlist.{sum_below, all_pins};
 ghost use Rattle.chip.specs.Inner.Limits.{InLimits};
-ghost use Rattle.chip.specs.Inner.Tables.{tabled};
+ghost use Rattle.chip.specs.Inner.Tables.{tabled, sized};
 ghost use Rattle.chip.specs.Refusals.{Wrote};
 ghost use Rattle.chip.specs.File.{word, inputs_file, pins_file, cells_file, outputs_file, padded_file};
 ghost use Rattle.writing.specs.Inner.Put.{Put};
 
-use chip::{Counts, Kinds, Nets, wide8};
+use chip::{Counts, Kinds, Nets, Sizes};
 
 // A number of two bytes, low byte first.
 fn put_word(out: &mut [u8], at: usize, x: u16) -> usize
     requires { at + 2 ≤ length out.old }
     ensures { Put (word x) at out.old out.new result }
 {
-    out[at] = (x % 256) as u8;
-    out[at + 1] = (x / 256) as u8;
+    out[at..at + 2].copy_from_slice(&x.to_le_bytes());
     at + 2
 }
 
@@ -25,12 +24,11 @@ fn put_inputs(out: &mut [u8], b: usize) -> usize
     requires { (2 + b ≤ length out.old) × (b ≤ 64) }
     ensures { Put (word b ++ inputs_file (λ k. k + 1) b) 0 out.old out.new result }
 {
-    let mut at = put_word(out, 0, b as u16);
+    let at = put_word(out, 0, b as u16);
     for k in 0..b {
-        out[at] = (k + 1) as u8;
-        at += 1;
+        out[at + k] = (k + 1) as u8;
     }
-    at
+    at + b
 }
 
 // The nets of n pins, from pin `from` on.
@@ -39,8 +37,8 @@ fn put_pins(nets: &Nets, from: usize, n: usize, out: &mut [u8], start: usize) ->
     ensures { (i c o : ℕ) (kinds counts : List ℕ) → Put (pins_file (tabled i c o kinds counts nets.now) from n) start out.old out.new result }
 {
     let mut at = start;
-    for k in 0..n {
-        at = put_word(out, at, nets[from + k]);
+    for &net in &nets[from..from + n] {
+        at = put_word(out, at, net);
     }
     at
 }
@@ -52,7 +50,7 @@ fn put_cell(nets: &Nets, kind: u8, m: u8, p: usize, out: &mut [u8], at: usize) -
 {
     out[at] = kind;
     out[at + 1] = m;
-    put_pins(nets, p, wide8(m), out, at + 2)
+    put_pins(nets, p, usize::from(m), out, at + 2)
 }
 
 // The cells.
@@ -73,7 +71,7 @@ fn put_cells(
     for j in 0..c {
         let m = counts[j];
         at = put_cell(nets, kinds[j], m, p, out, at);
-        p += wide8(m);
+        p += usize::from(m);
     }
     at
 }
@@ -93,22 +91,15 @@ fn put_outputs(o: usize, nets: &Nets, b: usize, first: usize, out: &mut [u8], st
 }
 
 // Writes the file.
-pub fn put_file(
-    i: usize,
-    c: usize,
-    o: usize,
-    n: usize,
-    kinds: &Kinds,
-    counts: &Counts,
-    nets: &Nets,
-    out: &mut [u8],
-)
-    requires in_limits { InLimits (tabled i c o kinds.now counts.now nets.now) }
-    requires n_value { n ≡ all_pins (tabled i c o kinds.now counts.now nets.now) }
-    requires o_in_bounds { 6 + i + 2 * c + 2 * n + o ≤ length out.old }
-    ensures { Wrote (padded_file (tabled i c o kinds.now counts.now nets.now)) out.old out.new }
+pub fn put_file(z: Sizes, kinds: &Kinds, counts: &Counts, nets: &Nets, out: &mut [u8])
+    requires in_limits { InLimits (sized z kinds.now counts.now nets.now) }
+    requires n_value { z.pins ≡ all_pins (sized z kinds.now counts.now nets.now) }
+    requires o_in_bounds { 6 + z.inputs + 2 * z.cells + 2 * z.pins + z.outputs ≤ length out.old }
+    ensures { Wrote (padded_file (sized z kinds.now counts.now nets.now)) out.old out.new }
 {
+    let i = z.inputs;
+    let o = z.outputs;
     let cells = put_inputs(out, i);
-    let outputs = put_cells(c, kinds, counts, nets, out, cells);
-    put_outputs(o, nets, i, n - o, out, outputs);
+    let outputs = put_cells(z.cells, kinds, counts, nets, out, cells);
+    put_outputs(o, nets, i, z.pins - o, out, outputs);
 }

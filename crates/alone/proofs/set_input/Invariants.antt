@@ -5,7 +5,7 @@ use Rattle.alone.proofs.set_input.Given as goal
 
 abbrev pub invariant-loop-k : goal.invariant-loop-k
 invariant-loop-k l =
-    (l.k ≤ l.w) × VarsPut l.k l.x l.list l.input (λ k j. get_or l.acc j 0) l.initial.vals l.vals × VarsMarked l.k l.x l.trial.at l.list l.input l.heads l.readers l.reach l.initial.marks l.marks
+    (l.k ≤ l.group.width) × VarsPut l.k l.x l.group.variables.now l.chip.inputs.now (λ k j. get_or l.acc j 0) l.initial.vals l.vals × VarsMarked l.k l.x l.u l.group.variables.now l.chip.inputs.now l.chip.heads.now l.chip.readers.now l.chip.reach.now l.initial.marks l.marks
 
 abbrev pub decreases-loop-k : goal.decreases-loop-k
-decreases-loop-k l = l.w - l.k
+decreases-loop-k l = l.group.width - l.k

@@ -6,7 +6,7 @@ use Rattle.alone.proofs.try_outs.Given as goal
 
 abbrev pub invariant-loop-e : goal.invariant-loop-e
 invariant-loop-e l =
-    (l.e ≤ l.e-end) × (l.e-end ≡ 2 * l.o) × (l.first ≡ 2 * (l.i + l.c + l.n - l.o)) × Went (Between l.first (l.first + l.e)) (OutStep l.i l.c l.o l.n l.trial.chunk l.trial.at l.outs l.goods) l.initial.left l.initial.best l.initial.pat l.left l.best l.pat
+    (l.e ≤ l.e-end) × (l.e-end ≡ 2 * l.fn.sizes.outputs) × (l.first ≡ 2 * (l.fn.sizes.inputs + l.fn.sizes.cells + l.fn.sizes.pins - l.fn.sizes.outputs)) × Went (Between l.first (l.first + l.e)) (OutStep l.fn.sizes.inputs l.fn.sizes.cells l.fn.sizes.outputs l.fn.sizes.pins l.trial.chunk l.trial.at l.group.outs.now l.goods) l.initial.known.left l.initial.known.best l.initial.known.pat l.known.left l.known.best l.known.pat
 
 abbrev pub decreases-loop-e : goal.decreases-loop-e
 decreases-loop-e l = l.e-end - l.e

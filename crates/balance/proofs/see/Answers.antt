@@ -1,26 +1,20 @@
--- `balance::see` meets its contract: each label has its outputs of the pins passed, and a branch adds those of its word to its label's.
-use mathlib.Core.Path.{◌≡◌}
+-- Each label has its outputs of the pins passed, and a branch adds those of its word to its label's.
 use Prim.Native.Nat.{◌<◌}
 use native.Mathlib.Omega.{arith}
-use lib.ListN.{length, get_or}
-use Rattle.balance.proofs.Laws.{see_none, see_skip, see_more, see_all}
+use lib.ListN.{get_or}
+use Rattle.balance.proofs.Laws.{see_skip, see_more, see_all}
 use Rattle.balance.proofs.see.Goals as goal
-use Rattle.balance.proofs.see.Goals.{else-wide-i, then-wide-i}
-
-pub loop-p-init : goal.loop-p-init
-loop-p-init c = see_none _ _ _ _ _ _
-
-pub mark-requires : goal.mark-requires
-mark-requires c = omega (arith, c.wide-then-wide-i.ensures, c.mark-arg-then-wide-i-1.given, c.requires.1 c.loop-p.p (omega arith) (omega arith))
+use Rattle.balance.proofs.see.Goals.{then-from-i, else-from-i}
 
 pub loop-p-preserved : goal.loop-p-preserved
 loop-p-preserved c =
-    let named = c.wide.ensures in
-    elim c.if-wide-i.branch [
-      | then-wide-i w ↦ let long : length c.loop-p.seen ≡ 4160 = omega (arith, w.mark-arg-then-wide-i-1.given) in
-          let in-low : get_or c.args.branches.now c.loop-p.p 0 < c.args.i = omega (arith, w.if-wide-i.true, named) in
-          rw (w.seen-is, w.mark.ensures, w.wide-then-wide-i.ensures) (see_more _ _ _ _ _ _ _ _ c.loop-p.invariant (omega arith) in-low (c.requires.1 c.loop-p.p (omega arith) in-low) long)
-      | else-wide-i w ↦ rw w.seen-is (see_skip _ _ _ _ _ _ _ _ c.loop-p.invariant (omega arith) (λ h. omega (arith, w.if-wide-i.false, named, h)))
+    let T = c.loop-p.invariant in
+    let named = c.from.ensures in
+    elim c.if-from-i.branch [
+      | then-from-i w ↦
+          let low : get_or c.args.branches.now c.loop-p.p 0 < c.args.i = omega arith in
+          rw (w.seen-is, w.from-then-from-i.ensures) (see_more _ _ _ _ _ _ _ _ T (omega arith) low (c.requires.1 c.loop-p.p (omega arith) low) (omega arith))
+      | else-from-i w ↦ rw w.seen-is (see_skip _ _ _ _ _ _ _ _ T (omega arith) (λ h. omega (arith, w.if-from-i.false, named, h)))
     ]
 
 pub returns : goal.returns

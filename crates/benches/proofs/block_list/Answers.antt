@@ -1,5 +1,5 @@
 -- w counts the blocks below k that reach output z, so block k goes to entry w, and the tally of all b keeps w below 16.
-use mathlib.Core.Path.{◌≡◌, refl, sym, ◌∙◌}
+use mathlib.Core.Path.{◌≡◌, sym, ◌∙◌}
 use mathlib.Core.Bool.{true, false}
 use native.Mathlib.Omega.{arith}
 use Rattle.chip.proofs.Blocks.{tally_most, tally_past}
@@ -8,9 +8,6 @@ use Rattle.walk.proofs.Widths.{tally_yes, tally_no}
 use Rattle.benches.proofs.Tables.{list_more, list_skip}
 use Rattle.benches.proofs.block_list.Goals as goal
 use Rattle.benches.proofs.block_list.Goals.{else-has_bit, then-has_bit}
-
-pub loop-k-init : goal.loop-k-init
-loop-k-init c = (omega arith, refl, record { long = c.requires.3; at = λ k h a. absurd (omega arith) })
 
 pub offset_bounds-list-w : goal.offset_bounds-list-w
 offset_bounds-list-w c = omega (arith, c.loop-k.invariant.1, tally_most (rel_of c.args.reached.now c.args.z) c.loop-k.k)
@@ -35,9 +32,3 @@ loop-k-preserved c =
       | else-has_bit x ↦ let r : rel l.k ≡ false = sym e ∙ x.if-has_bit.false in
           (omega arith, rw x.w-is (tally_no rel l.w l.k l.invariant.1 r), rw x.list-is (list_skip l.k l.w rel l.list l.invariant.1 l.invariant.2 r))
     ]
-
-pub shape_of-list : goal.shape_of-list
-shape_of-list c = omega (arith, c.loop-k.invariant.2.long, c.requires.3)
-
-pub returns : goal.returns
-returns c = let e : c.loop-k.k ≡ c.args.b = omega arith in rw e at c.loop-k.invariant.2

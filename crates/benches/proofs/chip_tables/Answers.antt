@@ -3,66 +3,55 @@ use Prim.Native.Nat.{◌-◌}
 use mathlib.Core.Path.{◌≡◌, ◌∙◌}
 use native.Mathlib.Omega.{arith}
 use lib.ListN.{get_or}
-use Rattle.chip.specs.Netlist.{Netlist, first_pin}
-use Rattle.chip.specs.Inner.Tables.{sized}
+use Rattle.chip.specs.Netlist.{first_pin}
+use Rattle.opening.specs.Open.{netlist_of}
 use Rattle.chip.proofs.Basics.{pin_in, first_pin_lem}
-use Rattle.events.specs.Lent.{nets_of, branches_of, blocks_of}
 use Rattle.readers.specs.Readers.{Lengths}
 use Rattle.readers.proofs.Chips.{wires}
 use Rattle.walk.proofs.Walking.{ready_few, ready_laid}
 use Rattle.benches.proofs.Stages.{heads_of_lem, blocked_of}
 use Rattle.benches.proofs.chip_tables.Goals as goal
-use Rattle.benches.proofs.chip_tables.Goals.{After-build-arg-8-1, Start}
-
-abbrev net_of : Start → Netlist
-net_of s = sized s.args.z s.args.kinds.now s.args.counts.now (nets_of s.args.pins)
+use Rattle.benches.proofs.chip_tables.Goals.{Start}
 
 -- the cells' pins, all but those of the outputs
-pins_are : (s : Start) → s.args.z.pins - s.args.z.outputs ≡ first_pin (net_of s) s.args.z.cells
+pins_are : (s : Start) → s.args.opened.now.sizes.pins - s.args.opened.now.sizes.outputs ≡ first_pin (netlist_of s.args.opened.now) s.args.opened.now.sizes.cells
 pins_are s = omega (arith, s.requires.by_index.3.pins)
 
-sizes : (b : After-build-arg-8-1)
-    → let a = b.args in
-    Lengths a.kinds.now a.counts.now a.firsts.now (branches_of a.pins) (nets_of a.pins) a.order.now (blocks_of a.pins)
+sizes : (b : Start)
+    → let a = b.args.opened.now in
+    Lengths a.kinds a.counts a.firsts a.branches a.nets a.order a.block
 sizes b = record {
-  kinds_long = b.requires.kinds_len.0;
-  counts_long = omega (arith, b.build-arg-1.given);
-  firsts_long = omega (arith, b.build-arg-2-1.given);
-  branches_long = omega (arith, b.build-arg-3-1.given);
-  nets_long = omega (arith, b.build-arg-4-1.given);
-  order_long = omega (arith, b.build-arg-5-1.given);
-  block_long = omega (arith, b.build-arg-6-1.given);
+  kinds_long = omega arith;
+  counts_long = omega arith;
+  firsts_long = omega arith;
+  branches_long = omega arith;
+  nets_long = omega arith;
+  order_long = omega arith;
+  block_long = omega arith;
 }
 
-pub reaches-requires : goal.reaches-requires
-reaches-requires c =
+pub reaches-requires-clause-by_index : goal.reaches-requires-clause-by_index
+reaches-requires-clause-by_index c =
     let (_, _, _, R) = c.requires.by_index in
-    let L = R.limits in record {
-      c_bound = (L.few_cells, omega (arith, L.few_cells, c.reaches-arg-2-1.given), omega (arith, L.few_cells, c.requires.kinds_len.1));
-      by_index = λ t l.
-          let j = R.shaped.ordered.cell t l in
-          let f = R.shaped.first_pins (get_or c.args.order.now t 0) (omega arith) in
-          let own = pin_in (net_of (goal.at.reaches-requires c).Start) (get_or c.args.order.now t 0) (first_pin (net_of (goal.at.reaches-requires c).Start) (get_or c.args.order.now t 0)) (first_pin_lem (net_of (goal.at.reaches-requires c).Start) L.sound (get_or c.args.order.now t 0) j) in
-          (omega (arith, j, L.few_cells, c.reaches-arg-1.given), omega (arith, f, own, L.few_pins, c.reaches-arg-3-1.given));
-    }
+    let L = R.limits in λ t l.
+    let j = R.shaped.ordered.cell t l in
+    let f = R.shaped.first_pins (get_or c.args.opened.now.order t 0) (omega arith) in
+    let own = pin_in (netlist_of c.args.opened.now) (get_or c.args.opened.now.order t 0) (first_pin (netlist_of c.args.opened.now) (get_or c.args.opened.now.order t 0)) (first_pin_lem (netlist_of c.args.opened.now) L.sound (get_or c.args.opened.now.order t 0) j) in
+    (omega (arith, j, L.few_cells), omega (arith, f, own, L.few_pins))
 
-pub build-requires : goal.build-requires
-build-requires c =
+pub build-requires-clause-wires : goal.build-requires-clause-wires
+build-requires-clause-wires c =
     let (_, _, g, R) = c.requires.by_index in
-    let S = R.shaped in record {
-      wires = rw (pins_are (goal.at.build-requires c).Start) (wires c.args.z.inputs c.args.z.cells c.args.z.outputs _ c.args.kinds.now c.args.counts.now (branches_of c.args.pins) (nets_of c.args.pins) c.args.firsts.now c.args.order.now (blocks_of c.args.pins) S.low
-          R.limits S.first_pins S.ordered S.branch_table (sizes (goal.at.build-requires c).After-build-arg-8-1) (ready_few R) (ready_laid R g S.low S.prepared.lowest));
-      heads_len = c.requires.heads_len;
-      readers_len = c.requires.readers_len;
-    }
+    let S = R.shaped in rw (pins_are (goal.at.build-requires-clause-wires c).Start) (wires c.args.opened.now.sizes.inputs c.args.opened.now.sizes.cells c.args.opened.now.sizes.outputs _ c.args.opened.now.kinds c.args.opened.now.counts c.args.opened.now.branches c.args.opened.now.nets c.args.opened.now.firsts c.args.opened.now.order c.args.opened.now.block S.low
+    R.limits S.first_pins S.ordered S.branch_table (sizes (goal.at.build-requires-clause-wires c).Start) (ready_few R) (ready_laid R g S.low S.prepared.lowest))
 
 pub block_inputs-requires : goal.block_inputs-requires
 block_inputs-requires c =
     let (_, _, g, R) = c.requires.by_index in
     let S = R.shaped in (
-      blocked_of c.args.z.inputs c.args.z.cells c.args.z.outputs c.args.z.pins _ c.args.kinds.now c.args.counts.now (nets_of c.args.pins) (branches_of c.args.pins) (blocks_of c.args.pins) S.low
+      blocked_of c.args.opened.now.sizes.inputs c.args.opened.now.sizes.cells c.args.opened.now.sizes.outputs c.args.opened.now.sizes.pins _ c.args.opened.now.kinds c.args.opened.now.counts c.args.opened.now.nets c.args.opened.now.branches c.args.opened.now.block S.low
           R.limits R.pins S.branch_table (ready_few R) (ready_laid R g S.low S.prepared.lowest),
-      c.requires.kinds_len.2,
+      c.requires.reach_len.1,
     )
 
 pub returns : goal.returns
@@ -71,10 +60,10 @@ returns c =
     let S = R.shaped in
     let r = c.reaches.ensures in
     record {
-      sizes = sizes (goal.at.returns c).After-build-arg-8-1;
-      named = heads_of_lem c.args.z.inputs c.args.z.cells c.args.z.outputs c.args.z.pins _ c.args.kinds.now c.args.counts.now (nets_of c.args.pins) (branches_of c.args.pins) (blocks_of c.args.pins) S.low
-          R.limits R.pins S.branch_table (ready_few R) (ready_laid R g S.low S.prepared.lowest) c.args.firsts.now c.args.order.now (sizes (goal.at.returns c).After-build-arg-8-1);
-      reach_long = r.long ∙ c.requires.kinds_len.1;
+      sizes = sizes (goal.at.returns c).Start;
+      named = heads_of_lem c.args.opened.now.sizes.inputs c.args.opened.now.sizes.cells c.args.opened.now.sizes.outputs c.args.opened.now.sizes.pins _ c.args.opened.now.kinds c.args.opened.now.counts c.args.opened.now.nets c.args.opened.now.branches c.args.opened.now.block S.low
+          R.limits R.pins S.branch_table (ready_few R) (ready_laid R g S.low S.prepared.lowest) c.args.opened.now.firsts c.args.opened.now.order (sizes (goal.at.returns c).Start);
+      reach_long = r.long ∙ c.requires.reach_len.0;
       masks = r.mask;
       built = c.build.ensures;
       inputs = c.block_inputs.ensures;

@@ -1,10 +1,6 @@
-use Prim.Native.Nat.{◌-◌, ◌≤◌}
 use Rattle.blocks.specs.Steps.{PinJoined}
 use Rattle.blocks.proofs.join_pin.Given as goal
 
 abbrev pub invariant-loop-z : goal.invariant-loop-z
 invariant-loop-z l =
-    (l.z ≤ l.o) × PinJoined l.x l.o l.p l.word l.z l.initial.owners l.initial.low l.owners l.low
-
-abbrev pub decreases-loop-z : goal.decreases-loop-z
-decreases-loop-z l = l.o - l.z
+    PinJoined l.x l.o l.p l.word l.z l.initial.owners l.initial.low l.owners l.low

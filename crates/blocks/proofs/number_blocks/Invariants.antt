@@ -1,4 +1,3 @@
-use Prim.Native.Nat.{◌-◌, ◌≤◌}
 use Rattle.chip.specs.Netlist.{Netlist}
 use Rattle.chip.specs.Class.{Lowest}
 use Rattle.levels.specs.Branches.{Branched}
@@ -8,7 +7,4 @@ use Rattle.blocks.proofs.number_blocks.Given as goal
 
 abbrev pub invariant-loop-x : goal.invariant-loop-x
 invariant-loop-x l =
-    (l.x ≤ l.i) × ((N : Netlist) → Branched N l.i l.n l.branches → Lowest N (label_of N l.low) → Counted N (label_of N l.low) l.x l.block l.next)
-
-abbrev pub decreases-loop-x : goal.decreases-loop-x
-decreases-loop-x l = l.i - l.x
+    (N : Netlist) → Branched N l.i l.n l.branches → Lowest N (label_of N l.low) → Counted N (label_of N l.low) l.x l.block l.next

@@ -1,9 +1,10 @@
-use Prim.Native.Nat.{◌-◌, ◌≤◌}
-use Rattle.blocks.proofs.Labels.{Replacing}
+use mathlib.Core.Path.{◌≡◌}
+use Prim.Native.Nat.{ℕ, ◌≤◌, ◌<◌}
+use lib.ListN.{get_or}
+use Rattle.blocks.specs.Steps.{replaced}
 use Rattle.blocks.proofs.relabel.Given as goal
 
-abbrev pub invariant-loop-q : goal.invariant-loop-q
-invariant-loop-q l = (l.q ≤ 4096) × Replacing l.from l.to l.q l.initial.labels l.labels
-
-abbrev pub decreases-loop-q : goal.decreases-loop-q
-decreases-loop-q l = 4096 - l.q
+-- the pins passed have lost the label `from`, and the others wait
+abbrev pub invariant-loop-label : goal.invariant-loop-label
+invariant-loop-label l =
+    ((p : ℕ) → p < l.label-index → get_or l.low p 0 ≡ replaced l.from l.to (get_or l.initial.low p 0)) × ((p : ℕ) → l.label-index ≤ p → get_or l.low p 0 ≡ get_or l.initial.low p 0)

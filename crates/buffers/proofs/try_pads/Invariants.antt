@@ -1,15 +1,16 @@
-use Prim.Native.Nat.{◌-◌, ◌*◌, ◌≤◌}
+use Prim.Native.Nat.{◌-◌, ◌≤◌}
 use mathlib.Core.Path.{◌≡◌}
-use Rattle.events.specs.Lent.{kinds_of, counts_of, firsts_of, order_of, nets_of, slots_of, outs_of}
 use Rattle.known.specs.Setting.{Went}
 use Rattle.buffers.specs.Buffers.{FaultStep}
 use Rattle.buffers.proofs.Faults.{PadsBelow}
 use Rattle.buffers.proofs.try_pads.Given as goal
 
-abbrev pub invariant-loop-e : goal.invariant-loop-e
-invariant-loop-e l =
-    (l.e ≤ 4 * l.c) × (l.vals ≡ l.goods)
-    × Went (PadsBelow l.e l.i l.c l.firsts l.sources) (FaultStep l.i l.c l.trial.outputs l.trial.chunk l.trial.at (kinds_of l.bytes) (counts_of l.bytes) (firsts_of l.t-3) (nets_of l.pins) (order_of l.t-3) l.reach (slots_of l.group) (outs_of l.group) l.goods) l.initial.left l.initial.best l.initial.pat l.left l.best l.pat
+abbrev pub invariant-loop-j : goal.invariant-loop-j
+invariant-loop-j l =
+    let chip = l.chip in
+    let z = chip.sizes in
+    (l.j ≤ z.cells) × (l.vals ≡ l.goods)
+    × Went (PadsBelow l.j z.inputs z.cells chip.firsts.now chip.sources.now) (FaultStep z.inputs z.cells z.outputs l.trial.chunk l.trial.at chip.kinds.now chip.counts.now chip.firsts.now chip.nets.now chip.order.now chip.reach.now l.group.slots.now l.group.outs.now l.goods) l.initial.known.left l.initial.known.best l.initial.known.pat l.known.left l.known.best l.known.pat
 
-abbrev pub decreases-loop-e : goal.decreases-loop-e
-decreases-loop-e l = 4 * l.c - l.e
+abbrev pub decreases-loop-j : goal.decreases-loop-j
+decreases-loop-j l = l.chip.sizes.cells - l.j

@@ -1,47 +1,49 @@
 -- Each test that is passed rules out one refusal in the order of the reply, and what the clocks show is then the answer.
+use Prim.Native.Nat.{ℕ}
 use mathlib.Core.Path.{refl, sym}
-use native.Mathlib.Omega.{arith}
-use Rattle.chip.specs.Faults.{FaultIn, AllBits}
+use mathlib.Core.List.{List}
+use Rattle.std.specs.Prelude.{Option, Some, None}
+use Rattle.chip.specs.Netlist.{Netlist}
+use Rattle.chip.specs.Faults.{FaultIn, stuck}
 use Rattle.chip.specs.Refusals.{refuses, goes_on, prepared, Clocks}
-use Rattle.chip.specs.Replies.{shows, shows_not}
+use Rattle.chip.specs.Replies.{Checks, shows, shows_not}
+use Rattle.chip.specs.Got.{got}
+use Rattle.chip.specs.declared.Fault.{Fault}
+use Rattle.chip.specs.declared.Sight.{Sight}
 use Rattle.faults.specs.Sites.{Known}
-use Rattle.faults.proofs.Sites.{is_unknown, is_known}
 use Rattle.plays.proofs.Bytes.{not_above}
 use Rattle.opening.specs.Open.{netlist_of}
+use Rattle.running.specs.Verdict.{Verdict}
 use Rattle.checking.proofs.check_on.Goals as goal
-use Rattle.checking.proofs.check_on.Goals.{After-known, Else-k-play, Else-n-gt1024, Else-not-known}
+use Rattle.checking.proofs.check_on.Goals.{After-known, Else-not-known}
 
 -- what the test of the site says
-told : (c : After-known) → Known (netlist_of c.args.opened) c.args.fault c.known.result
-told c = c.known.ensures (netlist_of c.args.opened) refl refl (sym c.requires.ready.pins)
+told : (c : After-known) → Known (netlist_of c.args.opened.now) c.args.fault c.known.result
+told c = c.known.ensures (netlist_of c.args.opened.now) refl refl (sym c.requires.ready.pins)
 
-site : (c : Else-not-known) → FaultIn (netlist_of c.args.opened) c.args.fault
-site c = is_known _ _ c.known.result (told (goal.at.Else-not-known c).After-known) c.if-not-known.false-raw
+site : (c : Else-not-known) → FaultIn (netlist_of c.args.opened.now) c.args.fault
+site c = rw c.if-not-known.false at (told (goal.at.Else-not-known c).After-known)
 
--- the play's length is that of some clocks, and its bytes are 0 or 1
-whole : (c : Else-n-gt1024) → Clocks c.args.opened.sizes.inputs c.args.play.now c.clock_count-n.result
-whole c = c.clock_count-n.ensures.found (omega (arith, c.if-n-gt1024.false))
-
-bits : (c : Else-k-play) → AllBits c.args.play.now
-bits c = c.first_above_one-k.ensures.none (omega (arith, c.if-k-play.false))
+-- what the clocks of a play show is what checking it answers
+shown : (N : Netlist) (d : ℕ) (fault : Fault) (play : List ℕ) (n : ℕ) → Clocks N.inputs play n → (r : Option Sight) → Verdict N (stuck fault) play d n r → Checks N d fault play (got r)
+shown N d fault play n K (Some s) S = shows K S
+shown N d fault play n K None S = shows_not K S
 
 pub returns-then-not-known : goal.returns-then-not-known
-returns-then-not-known c = prepared c.requires.ready.shaped.prepared (refuses (record { there = refl; holds = is_unknown _ _ c.known.result (told (goal.at.returns-then-not-known c).After-known) c.if-not-known.true-raw }))
+returns-then-not-known c =
+    rw c.at.ensures (prepared c.requires.ready.shaped.prepared (refuses (record { there = refl; holds = rw c.if-not-known.true at (told (goal.at.returns-then-not-known c).After-known) })))
 
-pub clock_count-n-requires : goal.clock_count-n-requires
-clock_count-n-requires c = c.requires.ready.limits.some_input
+pub returns-in_default : goal.returns-in_default
+returns-in_default c =
+    rw c.at-in_default.ensures (prepared c.requires.ready.shaped.prepared (goes_on (λ p w. w.holds (site (goal.at.returns-in_default c).Else-not-known)) (refuses (record { there = refl; holds = c.in_default.ensures }))))
 
-pub returns-then-n-gt1024 : goal.returns-then-n-gt1024
-returns-then-n-gt1024 c = prepared c.requires.ready.shaped.prepared (goes_on (λ p w. w.holds (site (goal.at.returns-then-n-gt1024 c).Else-not-known)) (refuses (record { there = refl; holds = c.clock_count-n.ensures.none c.if-n-gt1024.true })))
+pub returns-in-Some-first_above_one : goal.returns-in-Some-first_above_one
+returns-in-Some-first_above_one c =
+    rw c.at-in-Some-first_above_one.ensures (prepared c.requires.ready.shaped.prepared (goes_on (λ p w. w.holds (site (goal.at.returns-in-Some-first_above_one c).Else-not-known)) (goes_on (λ p w. w.holds _ c.in-Some.ensures) (refuses c.in-Some-first_above_one.ensures))))
 
-pub returns-then-k-play : goal.returns-then-k-play
-returns-then-k-play c = prepared c.requires.ready.shaped.prepared (goes_on (λ p w. w.holds (site (goal.at.returns-then-k-play c).Else-not-known)) (goes_on (λ p w. w.holds _ (whole (goal.at.returns-then-k-play c).Else-n-gt1024)) (refuses (c.first_above_one-k.ensures.found c.if-k-play.true))))
+pub run_on-requires-clause-fault_in : goal.run_on-requires-clause-fault_in
+run_on-requires-clause-fault_in c = (site (goal.at.run_on-requires-clause-fault_in c).Else-not-known, record { long = c.in-Some.ensures.long; bits = c.in_default-first_above_one.ensures })
 
-pub run_on-requires : goal.run_on-requires
-run_on-requires c = record { fact = c.requires; fault_in = (site (goal.at.run_on-requires c).Else-not-known, record { long = (whole (goal.at.run_on-requires c).Else-n-gt1024).long; bits = bits (goal.at.run_on-requires c).Else-k-play }) }
-
-pub returns-in-Shown : goal.returns-in-Shown
-returns-in-Shown c = prepared c.requires.ready.shaped.prepared (goes_on (λ p w. w.holds (site (goal.at.returns-in-Shown c).Else-not-known)) (goes_on (λ p w. w.holds _ (whole (goal.at.returns-in-Shown c).Else-n-gt1024)) (goes_on (not_above (bits (goal.at.returns-in-Shown c).Else-k-play)) (shows (whole (goal.at.returns-in-Shown c).Else-n-gt1024) (rw c.in-Shown.is at c.run_on.ensures)))))
-
-pub returns-in-NotSeen : goal.returns-in-NotSeen
-returns-in-NotSeen c = prepared c.requires.ready.shaped.prepared (goes_on (λ p w. w.holds (site (goal.at.returns-in-NotSeen c).Else-not-known)) (goes_on (λ p w. w.holds _ (whole (goal.at.returns-in-NotSeen c).Else-n-gt1024)) (goes_on (not_above (bits (goal.at.returns-in-NotSeen c).Else-k-play)) (shows_not (whole (goal.at.returns-in-NotSeen c).Else-n-gt1024) (rw c.in-NotSeen.is at c.run_on.ensures)))))
+pub returns : goal.returns
+returns c =
+    prepared c.requires.ready.shaped.prepared (goes_on (λ p w. w.holds (site (goal.at.returns c).Else-not-known)) (goes_on (λ p w. w.holds _ c.in-Some.ensures) (goes_on (not_above c.in_default-first_above_one.ensures) (shown _ _ _ _ _ c.in-Some.ensures _ c.run_on.ensures))))

@@ -1,13 +1,12 @@
 -- A file that is refused has that reply, and one that is open the reply of its chip.
+use Rattle.std.proofs.lemmas.Result.{err_from_is_err_and, MatchResult-at_ok, MatchResult-at_err}
 use Rattle.chip.specs.Refusals.{unopened, opened}
-use Rattle.opening.proofs.Answers.{is_refused, is_open}
 use Rattle.checking.proofs.check_play.Goals as goal
 
-pub check_on-requires : goal.check_on-requires
-check_on-requires c = (is_open c.open-opened.ensures c.in-Open.is).1
+pub returns-in_err-opened : goal.returns-in_err-opened
+returns-in_err-opened c =
+    let p = err_from_is_err_and c.from_residual.result c.from_residual.ensures.1 in
+    rw (p.1, p.2) (unopened (MatchResult-at_err _ _ _ c.in_err-opened.was c.open.ensures))
 
-pub returns-in-Refused : goal.returns-in-Refused
-returns-in-Refused c = unopened (is_refused c.open-opened.ensures c.in-Refused.is)
-
-pub returns-in-Open : goal.returns-in-Open
-returns-in-Open c = opened (is_open c.open-opened.ensures c.in-Open.is).0 c.check_on.ensures
+pub returns : goal.returns
+returns c = opened (MatchResult-at_ok _ _ _ c.in_ok-opened.was c.open.ensures).0 c.check_on.ensures

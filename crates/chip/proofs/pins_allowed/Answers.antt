@@ -5,13 +5,13 @@ use native.Mathlib.Omega.{arith}
 use Rattle.chip.proofs.pins_allowed.Goals as goal
 use Rattle.chip.proofs.pins_allowed.Goals.{in_default-via-then-kind-lt2, in_default-via-else-kind-lt2+else-kind-lt8}
 
-pub returns-then-pins-lt2 : goal.returns-then-pins-lt2
+pub returns-then-pins-ge2 : goal.returns-then-pins-ge2
 unfolding takes
-returns-then-pins-lt2 c = rw (le-leb 2 c.args.kind (omega arith), le-leb c.args.kind 7 (omega arith), lt-leb _ _ c.if-pins-lt2.true)
+returns-then-pins-ge2 c = rw (le-leb 2 c.args.kind (omega arith), le-leb c.args.kind 7 (omega arith), le-leb 2 c.args.pins c.if-pins-ge2.true)
 
-pub returns-else-pins-lt2 : goal.returns-else-pins-lt2
+pub returns-else-pins-ge2 : goal.returns-else-pins-ge2
 unfolding takes
-returns-else-pins-lt2 c = rw (le-leb 2 c.args.kind (omega arith), le-leb c.args.kind 7 (omega arith), le-leb _ _ c.if-pins-lt2.false)
+returns-else-pins-ge2 c = rw (le-leb 2 c.args.kind (omega arith), le-leb c.args.kind 7 (omega arith), lt-leb 2 c.args.pins c.if-pins-ge2.false)
 
 pub returns-in_default : goal.returns-in_default
 unfolding takes

@@ -3,7 +3,6 @@ use Prim.Native.Nat.{suc, ◌*◌, ◌-◌, ◌≤◌, ◌<◌}
 use mathlib.Core.Logic.{inl, inr}
 use native.Mathlib.Omega.{arith}
 use native.Mathlib.Nat.{mul-le-mul_right}
-use borrow.Author.Tests.{leb-false}
 use lib.ListN.{length}
 use Rattle.plays.proofs.Parts.{clock_up}
 use Rattle.clocks.proofs.Answers.{read_13, read_11, read_14, read_18, read_19, read_15, read_done}
@@ -12,41 +11,41 @@ use Rattle.clocks.proofs.read_on.Goals as goal
 use Rattle.clocks.proofs.read_on.Goals.{Else-pattern-s, then-clock-s-via-then-clock-s, then-clock-s-via-else-clock-s+then-n-clock}
 
 pub returns-then-z-output : goal.returns-then-z-output
-returns-then-z-output c = read_13 _ c.requires _ _ _ _ c.if-z-output.true
+returns-then-z-output c = rw c.at.ensures (read_13 _ c.requires _ _ _ _ c.if-z-output.true)
 
 pub returns-then-s-eq1 : goal.returns-then-s-eq1
-returns-then-s-eq1 c = read_11 _ c.requires _ _ _ _ (omega (arith, c.if-z-output.false)) c.if-s-eq1.true
+returns-then-s-eq1 c = rw c.at-then-s-eq1.ensures (read_11 _ c.requires _ _ _ _ (omega (arith, c.if-z-output.false)) c.if-s-eq1.true)
 
-pub clock_count-n-requires : goal.clock_count-n-requires
-clock_count-n-requires c = c.requires.ready.limits.some_input
+pub clock_count-requires : goal.clock_count-requires
+clock_count-requires c = c.requires.ready.limits.some_input
 
-pub returns-then-n-gt1024 : goal.returns-then-n-gt1024
-returns-then-n-gt1024 c = read_14 _ c.requires _ _ _ _ (omega (arith, c.if-z-output.false)) c.if-s-eq1.false (c.clock_count-n.ensures.none c.if-n-gt1024.true)
+pub returns-in_default : goal.returns-in_default
+returns-in_default c = rw c.at-in_default.ensures (read_14 _ c.requires _ _ _ _ (omega (arith, c.if-z-output.false)) c.if-s-eq1.false c.in_default.ensures)
 
-pub returns-then-k-play : goal.returns-then-k-play
-returns-then-k-play c = read_18 _ c.requires _ _ _ _ (omega (arith, c.if-z-output.false)) c.if-s-eq1.false _ (c.clock_count-n.ensures.found (omega (arith, c.if-n-gt1024.false))) _ (c.first_above_one-k.ensures.found c.if-k-play.true)
+pub returns-in-Some-first_above_one : goal.returns-in-Some-first_above_one
+returns-in-Some-first_above_one c = rw c.at-in-Some-first_above_one.ensures (read_18 _ c.requires _ _ _ _ (omega (arith, c.if-z-output.false)) c.if-s-eq1.false _ c.in-Some.ensures _ c.in-Some-first_above_one.ensures)
 
 pub returns-then-clock-s : goal.returns-then-clock-s
 returns-then-clock-s c =
-    read_19 _ c.requires _ _ _ _ (omega (arith, c.if-z-output.false)) c.if-s-eq1.false _ (c.clock_count-n.ensures.found (omega (arith, c.if-n-gt1024.false))) (c.first_above_one-k.ensures.none (omega (arith, c.if-k-play.false)))
-    (elim c.then-clock-s.branch [ then-clock-s-via-then-clock-s w ↦ inl w.if-clock-s.true | then-clock-s-via-else-clock-s+then-n-clock w ↦ inr w.if-n-clock.true ])
+    rw c.at-then-clock-s.ensures (read_19 _ c.requires _ _ _ _ (omega (arith, c.if-z-output.false)) c.if-s-eq1.false _ c.in-Some.ensures c.in_default-first_above_one.ensures
+    (elim c.then-clock-s.branch [ then-clock-s-via-then-clock-s w ↦ inl w.if-clock-s.true | then-clock-s-via-else-clock-s+then-n-clock w ↦ inr w.if-n-clock.true ]))
 
 pub returns-then-pattern-s : goal.returns-then-pattern-s
 returns-then-pattern-s c =
-    read_15 _ c.requires _ _ _ _ (omega (arith, c.if-z-output.false)) c.if-s-eq1.false _ (c.clock_count-n.ensures.found (omega (arith, c.if-n-gt1024.false))) (c.first_above_one-k.ensures.none (omega (arith, c.if-k-play.false)))
-    (omega (arith, c.if-clock-s.false)) (leb-false _ _ c.if-n-clock.false-raw) c.if-pattern-s.true
+    rw c.at-then-pattern-s.ensures (read_15 _ c.requires _ _ _ _ (omega (arith, c.if-z-output.false)) c.if-s-eq1.false _ c.in-Some.ensures c.in_default-first_above_one.ensures
+    (omega (arith, c.if-clock-s.false)) c.if-n-clock.false c.if-pattern-s.true)
 
 -- the play has the clock, and the window begins in it
-clock_there : (f : Else-pattern-s) → suc f.args.clock * f.args.opened.sizes.inputs
+clock_there : (f : Else-pattern-s) → suc f.args.clock * f.args.opened.now.sizes.inputs
     ≤ length f.args.play.now
 clock_there f =
-    let u : f.args.clock < f.clock_count-n.result = leb-false _ _ f.if-n-clock.false-raw in
-    omega (arith, mul-le-mul_right f.args.opened.sizes.inputs u, (f.clock_count-n.ensures.found (omega (arith, f.if-n-gt1024.false))).long)
+    let u : f.args.clock < f.in-Some.n = f.if-n-clock.false in
+    omega (arith, mul-le-mul_right f.args.opened.now.sizes.inputs u, (f.in-Some.ensures).long)
 
-begins : (f : Else-pattern-s) → (f.args.clock - f.args.opened.shape.depth) * f.args.opened.sizes.inputs
+begins : (f : Else-pattern-s) → (f.args.clock - f.args.opened.now.shape.depth) * f.args.opened.now.sizes.inputs
     ≤ length f.args.play.now
 begins f =
-    omega (arith, clock_up f.args.opened.sizes.inputs (f.args.clock - f.args.opened.shape.depth) (suc f.args.clock) (omega arith), clock_there f)
+    omega (arith, clock_up f.args.opened.now.sizes.inputs (f.args.clock - f.args.opened.now.shape.depth) (suc f.args.clock) (omega arith), clock_there f)
 
 pub overflow_mul-from : goal.overflow_mul-from
 overflow_mul-from c = omega (arith, begins (goal.at.overflow_mul-from c).Else-pattern-s, c.well_formed)
@@ -56,11 +55,11 @@ slice_bounds-read_play-count c = omega (arith, begins (goal.at.slice_bounds-read
 
 pub read_play-requires : goal.read_play-requires
 read_play-requires c =
-    let late : c.args.opened.shape.depth ≤ c.args.clock = omega (arith, c.if-clock-s.false) in record {
+    let late : c.args.opened.now.shape.depth ≤ c.args.clock = omega (arith, c.if-clock-s.false) in record {
       by_index = ((_, c.requires.ready), c.if-s-eq1.false);
       output_lt_outputs = (
         omega (arith, c.if-z-output.false),
-        window_bits _ _ _ c.args.play.now late (clock_there (goal.at.read_play-requires c).Else-pattern-s) (c.first_above_one-k.ensures.none (omega (arith, c.if-k-play.false))),
+        window_bits _ _ _ c.args.play.now late (clock_there (goal.at.read_play-requires c).Else-pattern-s) c.in_default-first_above_one.ensures,
         window_long _ _ _ c.args.play.now late (clock_there (goal.at.read_play-requires c).Else-pattern-s),
         omega (arith, c.if-pattern-s.false),
       );
@@ -68,6 +67,6 @@ read_play-requires c =
 
 pub returns : goal.returns
 returns c =
-    read_done _ c.requires _ _ _ _ (omega (arith, c.if-z-output.false)) c.if-s-eq1.false _ (c.clock_count-n.ensures.found (omega (arith, c.if-n-gt1024.false))) (c.first_above_one-k.ensures.none (omega (arith, c.if-k-play.false)))
-    (omega (arith, c.if-clock-s.false)) (leb-false _ _ c.if-n-clock.false-raw) _ (omega (arith, c.if-pattern-s.false))
+    read_done _ c.requires _ _ _ _ (omega (arith, c.if-z-output.false)) c.if-s-eq1.false _ c.in-Some.ensures c.in_default-first_above_one.ensures
+    (omega (arith, c.if-clock-s.false)) c.if-n-clock.false _ (omega (arith, c.if-pattern-s.false))
     (λ low L. window_read c.requires.ready c.if-s-eq1.false low L (omega (arith, c.if-clock-s.false)) (c.read_play.ensures low L))

@@ -2,7 +2,7 @@
 use Prim.Native.Nat.{◌≤◌, ◌<◌}
 use mathlib.Core.Path.{◌≡◌, refl, sym, ◌∙◌}
 use native.Mathlib.Omega.{arith}
-use lib.ListN.{length, length-set}
+use lib.ListN.{length}
 use Rattle.chip.specs.Netlist.{all_pins}
 use Rattle.chip.proofs.Blocks.{counted}
 use Rattle.chip.specs.Pads.{branch_of}
@@ -10,7 +10,7 @@ use Rattle.copies.proofs.Firsts.{firsts_start, firsts_more, first_small, next_is
 use Rattle.copies.proofs.lowest_blocks.Goals as goal
 use Rattle.copies.proofs.lowest_blocks.Goals.{In-loop-x, Start}
 
-few_inputs : (s : Start) → s.args.i ≤ 64
+few_inputs : (s : Start) → s.args.z.inputs ≤ 64
 few_inputs s = let (_, i, _, L, _, _) = s.requires.value in omega (arith, i, L.few_inputs)
 
 -- the block that comes next is one of 64
@@ -18,19 +18,13 @@ at_low : (c : In-loop-x) → c.loop-x.at ≤ 64
 at_low c =
     let l = c.loop-x in
     let (N, i, e, _, T, F) = c.requires.value in
-    omega (arith, (l.invariant.2 N F.low i e T F.lowest F.table).is, first_small N F.low l.x (omega (arith, i, l.invariant.0)), F.few)
+    omega (arith, (l.invariant N F.low i e T F.lowest F.table).is, first_small N F.low l.x (omega (arith, i)), F.few)
 
 pub loop-x-init : goal.loop-x-init
-loop-x-init c = (omega arith, c.requires.table_len, λ N low i e T W t. firsts_start N low c.args.table.now)
+loop-x-init c N low i e T W t = firsts_start N low c.args.table.now
 
 pub overflow_cast-table : goal.overflow_cast-table
 overflow_cast-table c = omega (arith, at_low (goal.at.overflow_cast-table c).In-loop-x)
-
-pub offset_bounds-table-x : goal.offset_bounds-table-x
-offset_bounds-table-x c = omega (arith, c.loop-x-test.true, few_inputs (goal.at.offset_bounds-table-x c).Start)
-
-pub bounds-table-x : goal.bounds-table-x
-bounds-table-x c = omega (arith, c.loop-x-test.true, few_inputs (goal.at.bounds-table-x c).Start, c.loop-x.invariant.1)
 
 pub next_block-at-requires : goal.next_block-at-requires
 next_block-at-requires c =
@@ -49,17 +43,8 @@ pub loop-x-preserved : goal.loop-x-preserved
 loop-x-preserved c =
     let l = c.loop-x in
     let t = c.loop-x-test.true in
-    let room : l.x < length l.table = omega (arith, t, l.invariant.1, few_inputs (goal.at.loop-x-preserved c).Start) in (
-      omega arith,
-      simp length-set l.invariant.1,
-      λ N low i e T W U.
-          let K = l.invariant.2 N low i e T W U in
-          firsts_more N low l.x l.at c.next_block-at.result l.table K room
-          (next_is N low W c.args.branches.now c.args.block.now T U l.x l.at c.args.n c.next_block-at.result (omega (arith, t, i)) e K.is c.next_block-at.ensures),
-    )
-
-pub shape_of-table : goal.shape_of-table
-shape_of-table c = omega (arith, c.loop-x.invariant.1, c.requires.table_len)
-
-pub returns : goal.returns
-returns c N low i e T W t x h = (c.loop-x.invariant.2 N low i e T W t).done x (omega (arith, i, h))
+    let room : l.x < length l.table = omega (arith, t, few_inputs (goal.at.loop-x-preserved c).Start) in
+    λ N low i e T W U.
+    let K = l.invariant N low i e T W U in
+    firsts_more N low l.x l.at c.next_block-at.result l.table K room
+    (next_is N low W c.args.branches.now c.args.block.now T U l.x l.at c.args.z.pins c.next_block-at.result (omega (arith, t, i)) e K.is c.next_block-at.ensures)

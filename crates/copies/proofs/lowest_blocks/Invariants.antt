@@ -1,6 +1,5 @@
-use Prim.Native.Nat.{ℕ, ◌-◌, ◌≤◌}
+use Prim.Native.Nat.{ℕ}
 use mathlib.Core.Path.{◌≡◌}
-use lib.ListN.{length}
 use Rattle.chip.specs.Netlist.{Netlist, all_pins}
 use Rattle.chip.specs.Class.{Lowest}
 use Rattle.chip.specs.Inner.Tables.{BranchTable}
@@ -10,9 +9,4 @@ use Rattle.copies.proofs.lowest_blocks.Given as goal
 
 abbrev pub invariant-loop-x : goal.invariant-loop-x
 invariant-loop-x l =
-    (l.x ≤ l.i)
-    × (length l.table ≡ 64)
-    × ((N : Netlist) (low : ℕ → ℕ) → N.inputs ≡ l.i → l.n ≡ all_pins N → BranchTable N l.branches → Lowest N low → BlockTable N low l.block → Firsts N low l.x l.at l.table)
-
-abbrev pub decreases-loop-x : goal.decreases-loop-x
-decreases-loop-x l = l.i - l.x
+    (N : Netlist) (low : ℕ → ℕ) → N.inputs ≡ l.z.inputs → l.z.pins ≡ all_pins N → BranchTable N l.branches → Lowest N low → BlockTable N low l.block → Firsts N low l.x l.at l.table

@@ -7,6 +7,7 @@ use Rattle.chip.specs.Class.{LoopFree, Lowest, Blocks, blocks}
 use Rattle.chip.specs.Inner.Tables.{FirstPins, BranchTable}
 use Rattle.blocks.specs.Labels.{BlockTable}
 use Rattle.chip.specs.Transformed.{on_way, copied, copies, copy_at}
+use Rattle.copies.specs.declared.Copies.{Copies}
 
 -- pin p is a branch, and the way back to its input can be walked by the first pins
 pub record Way (N : Netlist) (firsts : List ℕ) (p : ℕ) : Type 0 where
@@ -57,12 +58,19 @@ pub record LowestBlocks (N : Netlist) (block : List ℕ) : Type 0 where
   pub table : BlockTable N low block
   pub few : (blocks N low).count ≤ 64
 
--- the copies of a circuit: the lowest block of each input; for block b and cell j whether the block has a copy of the cell, and its number; and how many there are
-pub record Copies (N : Netlist) (B : Blocks) (lowest marks numbers : List ℕ) (count : ℕ) : Type 0 where
-  pub marks_long : length marks ≡ 65536
-  pub numbers_long : length numbers ≡ 65536
-  pub lowest_is : FirstBlocks N B lowest
-  pub marked : (b j : ℕ) → b < B.count → j < N.cells → get_or marks (1024 * b + j) 0 ≡ bit (copied N B b j)
-  pub numbered : (b j : ℕ) → b < B.count → j < N.cells → get_or numbers (1024 * b + j) 0 ≡ copy_at N B b j
-  pub cells_only : (b j : ℕ) → N.cells ≤ j → j < 1024 → get_or marks (1024 * b + j) 0 ≡ 0
-  pub count_is : count ≡ copies N B
+-- tables for copies, with no mark yet
+pub record NoCopies (found : Copies) : Type 0 where
+  pub lowest_long : length found.lowest ≡ 64
+  pub marks_long : length found.marks ≡ 65536
+  pub numbers_long : length found.numbers ≡ 65536
+  pub unmarked : (l : ℕ) → get_or found.marks l 0 ≡ 0
+
+-- what was found are the copies of a circuit: the lowest block of each input; for block b and cell j whether the block has a copy of the cell, and its number; and how many there are
+pub record CopiesOf (N : Netlist) (B : Blocks) (found : Copies) : Type 0 where
+  pub marks_long : length found.marks ≡ 65536
+  pub numbers_long : length found.numbers ≡ 65536
+  pub lowest_is : FirstBlocks N B found.lowest
+  pub marked : (b j : ℕ) → b < B.count → j < N.cells → get_or found.marks (1024 * b + j) 0 ≡ bit (copied N B b j)
+  pub numbered : (b j : ℕ) → b < B.count → j < N.cells → get_or found.numbers (1024 * b + j) 0 ≡ copy_at N B b j
+  pub cells_only : (b j : ℕ) → N.cells ≤ j → j < 1024 → get_or found.marks (1024 * b + j) 0 ≡ 0
+  pub count_is : found.count ≡ copies N B

@@ -1,6 +1,3 @@
-use Prim.Native.Nat.{◌-◌, ◌≤◌}
-use mathlib.Core.Path.{◌≡◌}
-use lib.ListN.{length}
 use Rattle.chip.specs.Inner.Tables.{tabled}
 use Rattle.chip.specs.Faults.{Lines}
 use Rattle.faults.specs.Decided.{StuckNets, DecidedNets, Coming}
@@ -8,9 +5,4 @@ use Rattle.faults.proofs.coming_pins.Given as goal
 
 abbrev pub invariant-loop-p : goal.invariant-loop-p
 invariant-loop-p l =
-    (l.p ≤ l.n)
-    × (length l.table ≡ 4096)
-    × ((f : Lines) → StuckNets f l.own → DecidedNets (tabled l.i l.c l.o l.kinds l.counts l.nets) f l.seen → Coming (tabled l.i l.c l.o l.kinds l.counts l.nets) f l.p l.table)
-
-abbrev pub decreases-loop-p : goal.decreases-loop-p
-decreases-loop-p l = l.n - l.p
+    (f : Lines) → StuckNets f l.own → DecidedNets (tabled l.i l.c l.o l.kinds l.counts l.nets) f l.seen → Coming (tabled l.i l.c l.o l.kinds l.counts l.nets) f l.p l.table

@@ -1,4 +1,3 @@
-use Prim.Native.Nat.{◌-◌, ◌≤◌}
 use Rattle.chip.specs.Inner.Tables.{tabled}
 use Rattle.chip.specs.Faults.{stuck}
 use Rattle.faults.proofs.Settled.{Settled}
@@ -6,7 +5,4 @@ use Rattle.faults.proofs.decided_nets.Given as goal
 
 abbrev pub invariant-loop-t : goal.invariant-loop-t
 invariant-loop-t l =
-    (l.t ≤ l.c) × Settled (tabled l.i l.c l.o l.kinds l.counts l.nets) (stuck l.fault) l.order l.t l.table
-
-abbrev pub decreases-loop-t : goal.decreases-loop-t
-decreases-loop-t l = l.c - l.t
+    Settled (tabled l.i l.c l.o l.kinds l.counts l.nets) (stuck l.fault) l.order l.t l.table

@@ -1,25 +1,26 @@
--- The tests come in the order of the definition: no byte is 1, pad 0 or a pad used before is 3, any other is taken.
-use Rattle.chip.specs.Format.{pad_at, byte_at}
+-- A byte that is missing is refused, then a pad that is 0 or was used before.
+use Rattle.chip.specs.Format.{pad_at}
 use mathlib.Core.Path.{sym, ◌∙◌}
-use borrow.Author.Tests.{lt-ltb, le-ltb, eq-eqb, ne_eqb}
-use native.Mathlib.Omega.{arith}
+use borrow.Author.Tests.{eq-eqb, ne_eqb}
+use lib.ListN.{take}
+use Rattle.fields.proofs.Laws.{in_any}
+use Rattle.fields.proofs.pad_at.Goals.{then-pad-eq0-via-then-pad-eq0, then-pad-eq0-via-else-pad-eq0+then-contains}
 use Rattle.fields.proofs.pad_at.Goals as goal
 
-pub returns-then-file-at : goal.returns-then-file-at
-unfolding pad_at byte_at
-returns-then-file-at c = record { result_value = rw (le-ltb _ _ c.if-file-at.true); below = tt }
-
 pub returns-then-pad-eq0 : goal.returns-then-pad-eq0
-unfolding pad_at byte_at
-returns-then-pad-eq0 c = record { result_value = rw (lt-ltb _ _ c.if-file-at.false, eq-eqb _ _ c.if-pad-eq0.true); below = tt }
-
-pub returns-then-is_used : goal.returns-then-is_used
-unfolding pad_at byte_at
-returns-then-is_used c = record { result_value = rw (lt-ltb _ _ c.if-file-at.false, ne_eqb _ _ c.if-pad-eq0.false, sym c.is_used.ensures ∙ c.if-is_used.true); below = tt }
-
-pub overflow_cast-result : goal.overflow_cast-result
-overflow_cast-result c = omega (arith, c.shared_slice_known-3-1.given c.args.at)
+unfolding pad_at
+returns-then-pad-eq0 c =
+    rw (c.at.ensures, sym c.byte_at.ensures ∙ c.in_ok-pad.was) (elim c.then-pad-eq0.branch [
+      | then-pad-eq0-via-then-pad-eq0 w ↦ rw (eq-eqb _ _ w.if-pad-eq0.true)
+      | then-pad-eq0-via-else-pad-eq0+then-contains w ↦
+          rw (ne_eqb _ _ w.if-pad-eq0.false, in_any c.in_ok-pad.pad (take c.args.n c.args.pads.now) ∙ sym w.contains.ensures.value ∙ w.if-contains.true)
+    ])
 
 pub returns : goal.returns
-unfolding pad_at byte_at
-returns c = record { result_value = rw (lt-ltb _ _ c.if-file-at.false, ne_eqb _ _ c.if-pad-eq0.false, sym c.is_used.ensures ∙ c.if-is_used.false); below = omega (arith, c.shared_slice_known-3-1.given c.args.at) }
+unfolding pad_at
+returns c =
+    rw (
+      sym c.byte_at.ensures ∙ c.in_ok-pad.was,
+      ne_eqb _ _ c.if-pad-eq0.false,
+      in_any c.in_ok-pad.pad (take c.args.n c.args.pads.now) ∙ sym c.contains.ensures.value ∙ c.if-contains.false,
+    )

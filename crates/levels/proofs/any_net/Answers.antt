@@ -1,16 +1,13 @@
--- After k nets the word has just the outputs that one of them reaches, since `|` joins the masks of two sets of nets.
+-- The word is the words of the nets joined by `|`, which joins the masks of two sets of nets.
 use mathlib.Core.Path.{◌≡◌}
 use native.Mathlib.Omega.{arith}
-use Rattle.levels.proofs.Nets.{below_zero, below_next}
+use lib.ListN.{take}
+use Rattle.std.proofs.Common.{rules, fold}
+use Rattle.std.specs.Int.Bits.{bit_or}
+use Rattle.levels.proofs.Nets.{gathered}
 use Rattle.levels.proofs.any_net.Goals as goal
 
-pub loop-k-init : goal.loop-k-init
-loop-k-init c = (omega arith, λ N e y m. below_zero N e)
-
-pub loop-k-preserved : goal.loop-k-preserved
-loop-k-preserved c =
-    let l = c.loop-k in
-    (omega arith, λ N e y m. below_next N e (l.invariant.1 N e y m) (m l.k (omega arith)))
-
 pub returns : goal.returns
-returns c = λ N e y m. let q : c.loop-k.k ≡ c.args.n = omega arith in rw q at (c.loop-k.invariant.1 N e y m)
+returns c N e l m =
+    let q : c.fold.result ≡ fold bit_or 0 (take c.args.n c.args.reached.now) = search rules in
+    rw q (gathered N e _ m c.args.n (omega arith) l)

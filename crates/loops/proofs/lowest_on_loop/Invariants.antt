@@ -1,4 +1,4 @@
-use Prim.Native.Nat.{ℕ, ◌-◌, ◌≤◌}
+use Prim.Native.Nat.{ℕ}
 use mathlib.Core.List.{List}
 use Rattle.chip.specs.Inner.Tables.{FirstPins, tabled}
 use Rattle.loops.proofs.Lowest.{NoneTo}
@@ -6,7 +6,4 @@ use Rattle.loops.proofs.lowest_on_loop.Given as goal
 
 abbrev pub invariant-loop-j : goal.invariant-loop-j
 invariant-loop-j l =
-    (l.from ≤ l.j) × ((o : ℕ) (kinds counts : List ℕ) → FirstPins (tabled l.i l.c o kinds counts l.nets) l.firsts → NoneTo (tabled l.i l.c o kinds counts l.nets) l.from l.j)
-
-abbrev pub decreases-loop-j : goal.decreases-loop-j
-decreases-loop-j l = l.c - l.j
+    (o : ℕ) (kinds counts : List ℕ) → FirstPins (tabled l.i l.c o kinds counts l.nets) l.firsts → NoneTo (tabled l.i l.c o kinds counts l.nets) l.from l.j

@@ -1,81 +1,46 @@
 -- What the cells left to read add to those stored is always what all n give, and cell j starts at from + 2 * j + 2 * p.
-use Rattle.netlist.proofs.Laws.{cell_told, cell_kept, cells_more, cells_stop, cells_done, kept_more}
-use mathlib.Core.Path.{◌≡◌, refl, sym, ◌∙◌}
+use Rattle.std.proofs.lemmas.Result.{err_from_is_err_and, IfOk-at_ok}
+use Rattle.netlist.proofs.Laws.{said, cells_more, cells_stop, cells_done, kept_more}
+use Prim.Native.Nat.{◌+◌, ◌*◌}
+use mathlib.Core.Path.{◌≡◌, sym, ◌∙◌}
 use native.Mathlib.Omega.{arith}
 use Rattle.netlist.proofs.read_cells.Goals as goal
 
-pub loop-left-init : goal.loop-left-init
-loop-left-init c = (omega arith, omega arith, omega arith, refl, refl, refl, record { kinds = refl; counts = refl; nets = refl }, refl)
-
 pub read_cell-requires : goal.read_cell-requires
-read_cell-requires c = omega arith
+read_cell-requires c = omega (arith, c.loop-j-test.true, c.requires)
 
-pub shape_of-kinds-in-Refused : goal.shape_of-kinds-in-Refused
-shape_of-kinds-in-Refused c = omega arith
-
-pub shape_of-counts-in-Refused : goal.shape_of-counts-in-Refused
-shape_of-counts-in-Refused c = omega arith
-
-pub shape_of-nets-in-Refused : goal.shape_of-nets-in-Refused
-shape_of-nets-in-Refused c = omega arith
-
-pub returns-in-Refused : goal.returns-in-Refused
-returns-in-Refused c =
-    let l = c.loop-left in
-    let e = cell_told _ _ _ _ c.read_cell.ensures.answer c.in-Refused.is in
-    record { answer = sym (cells_stop _ _ _ _ _ _ c.loop-left-test.true e) ∙ l.invariant.7; kept = tt }
+pub returns-in_err-m : goal.returns-in_err-m
+returns-in_err-m c =
+    let p = err_from_is_err_and c.from_residual.result c.from_residual.ensures.1 in
+    record {
+      answer = rw (p.1, p.2) (sym (cells_stop _ _ _ _ _ (omega (arith, c.loop-j-test.true)) (said _ c.read_cell.ensures.answer c.in_err-m.was)) ∙ c.loop-j.invariant.6);
+      kept = rw p.1 tt;
+    }
 
 pub overflow_add-at : goal.overflow_add-at
-overflow_add-at c = omega arith
+overflow_add-at c = let k = IfOk-at_ok _ c.in_ok-m.was c.read_cell.ensures.kept in omega (arith, k.0)
 
-pub overflow_mul-at : goal.overflow_mul-at
-overflow_mul-at c = let k = cell_kept _ _ _ _ _ _ c.read_cell.ensures.kept c.in-Is.is in omega arith
-
-pub overflow_add-at-in-Is : goal.overflow_add-at-in-Is
-overflow_add-at-in-Is c = let k = cell_kept _ _ _ _ _ _ c.read_cell.ensures.kept c.in-Is.is in omega arith
-
-pub overflow_add-p : goal.overflow_add-p
-overflow_add-p c = let k = cell_kept _ _ _ _ _ _ c.read_cell.ensures.kept c.in-Is.is in omega arith
-
-pub overflow_add-j : goal.overflow_add-j
-overflow_add-j c = omega arith
-
-pub overflow_sub-left : goal.overflow_sub-left
-overflow_sub-left c = omega arith
-
-pub loop-left-smaller : goal.loop-left-smaller
-loop-left-smaller c = omega arith
-
-pub loop-left-preserved : goal.loop-left-preserved
-loop-left-preserved c =
-    let l = c.loop-left in
-    let e = cell_told _ _ _ _ c.read_cell.ensures.answer c.in-Is.is in
-    let k = cell_kept _ _ _ _ _ _ c.read_cell.ensures.kept c.in-Is.is in (
-      omega arith,
+pub loop-j-preserved : goal.loop-j-preserved
+loop-j-preserved c =
+    let l = c.loop-j in
+    let e = said _ c.read_cell.ensures.answer c.in_ok-m.was in
+    let at_more : l.at + (2 + 2 * c.in_ok-m.m) ≡ l.at + 2 + 2 * c.in_ok-m.m = omega arith in
+    let k = IfOk-at_ok _ c.in_ok-m.was c.read_cell.ensures.kept in (
       k.0,
       omega arith,
       omega arith,
       omega arith,
       omega arith,
-      kept_more l.j l.p _ _ _ _ l.invariant.6 k.1,
-      sym (cells_more _ _ _ _ _ c.loop-left-test.true e) ∙ l.invariant.7,
+      kept_more l.j l.p _ _ _ _ l.invariant.5 k.1,
+      rw at_more (sym (cells_more _ _ _ _ _ _ (omega (arith, c.loop-j-test.true)) e) ∙ l.invariant.6),
     )
-
-pub shape_of-kinds : goal.shape_of-kinds
-shape_of-kinds c = omega arith
-
-pub shape_of-counts : goal.shape_of-counts
-shape_of-counts c = omega arith
-
-pub shape_of-nets : goal.shape_of-nets
-shape_of-nets c = omega arith
 
 pub returns : goal.returns
 returns c =
-    let l = c.loop-left in
+    let l = c.loop-j in
     let a = c.args in
-    let e : l.j ≡ a.n = omega arith in
+    let e : l.j ≡ a.n = omega (arith, c.loop-j-test.false, l.auto) in
     record {
-      answer = rw e at (sym (cells_done _ _ _ _ c.loop-left-test.false) ∙ l.invariant.7);
-      kept = (l.invariant.1, omega arith, rw e at l.invariant.6);
+      answer = rw e at (sym (cells_done _ _ _ _ (omega (arith, c.loop-j-test.false))) ∙ l.invariant.6);
+      kept = (l.invariant.0, omega arith, rw e at l.invariant.5);
     }

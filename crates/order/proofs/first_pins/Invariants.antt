@@ -1,4 +1,3 @@
-use Prim.Native.Nat.{◌-◌, ◌≤◌}
 use mathlib.Core.Path.{◌≡◌}
 use lib.ListN.{get_or, length}
 use Rattle.chip.specs.Netlist.{sum_below}
@@ -7,7 +6,4 @@ use Rattle.order.proofs.first_pins.Given as goal
 
 abbrev pub invariant-loop-j : goal.invariant-loop-j
 invariant-loop-j l =
-    (l.j ≤ l.c) × (l.p ≡ sum_below (λ k. get_or l.counts k 0) l.j) × FirstsTo l.j l.counts l.table × (length l.table ≡ 1025)
-
-abbrev pub decreases-loop-j : goal.decreases-loop-j
-decreases-loop-j l = l.c - l.j
+    (l.p ≡ sum_below (λ k. get_or l.counts k 0) l.j) × FirstsTo l.j l.counts l.firsts × (length l.firsts ≡ 1025)

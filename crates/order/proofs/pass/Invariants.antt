@@ -1,9 +1,5 @@
-use Prim.Native.Nat.{◌-◌, ◌≤◌}
 use Rattle.order.specs.Placed.{Passed}
 use Rattle.order.proofs.pass.Given as goal
 
 abbrev pub invariant-loop-j : goal.invariant-loop-j
-invariant-loop-j l = (l.j ≤ l.c) × Passed l.i l.c l.firsts l.nets l.order l.places l.before l.n l.j
-
-abbrev pub decreases-loop-j : goal.decreases-loop-j
-decreases-loop-j l = l.c - l.j
+invariant-loop-j l = Passed l.i l.c l.firsts l.nets l.order l.places l.before l.n l.j

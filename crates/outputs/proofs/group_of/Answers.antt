@@ -1,14 +1,6 @@
--- After k blocks g has output z and only outputs with the same of these blocks behind them, as each part keeps z.
-use mathlib.Core.Path.{◌≡◌}
-use native.Mathlib.Omega.{arith}
-use Rattle.outputs.proofs.Words.{alike_none, alike_more}
+-- Before the first block g has all outputs, and each part keeps output z.
+use Rattle.outputs.proofs.Words.{alike_none}
 use Rattle.outputs.proofs.group_of.Goals as goal
 
-pub loop-k-init : goal.loop-k-init
-loop-k-init c = (omega arith, alike_none _ _ (omega arith))
-
-pub loop-k-preserved : goal.loop-k-preserved
-loop-k-preserved c = (omega arith, alike_more _ _ _ _ _ c.loop-k.invariant.1 c.part-g.ensures)
-
-pub returns : goal.returns
-returns c = let e : c.loop-k.k ≡ c.args.b = omega arith in rw e at c.loop-k.invariant.1
+pub loop-word-init : goal.loop-word-init
+loop-word-init c = alike_none _ _ c.requires.0

@@ -1,14 +1,14 @@
--- After f words x has each output that one of them has, and no other, since or adds just those of the next.
+-- The word is the words joined by or, from the first to the last, so it has the outputs that one of them has.
+use borrow.Author.Rules.{rules}
 use mathlib.Core.Path.{◌≡◌}
-use native.Mathlib.Omega.{arith}
-use Rattle.outputs.proofs.Words.{joined_none, joined_more}
+use lib.ListN.{take}
+use lib.Bits.{bit_or}
+use Rattle.std.specs.List.{fold}
+use Rattle.outputs.proofs.Words.{joined_fold}
 use Rattle.outputs.proofs.left_all.Goals as goal
 
-pub loop-f-init : goal.loop-f-init
-loop-f-init c = (omega arith, joined_none _)
-
-pub loop-f-preserved : goal.loop-f-preserved
-loop-f-preserved c = (omega arith, joined_more _ _ _ c.loop-f.invariant.1)
-
 pub returns : goal.returns
-returns c = let e : c.loop-f.f ≡ c.args.n = omega arith in rw e at c.loop-f.invariant.1
+returns c =
+    let a = c.args in
+    let e : c.fold.result ≡ fold bit_or 0 (take a.n a.left.now) = search rules in
+    rw e (joined_fold a.n a.left.now c.requires)

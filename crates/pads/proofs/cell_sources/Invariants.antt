@@ -1,10 +1,6 @@
-use Prim.Native.Nat.{◌-◌, ◌≤◌}
-use Rattle.chip.specs.Inner.Tables.{tabled}
+use Rattle.order.specs.Sorted.{netlist_in}
 use Rattle.pads.proofs.Laws.{Sourced}
 use Rattle.pads.proofs.cell_sources.Given as goal
 
-abbrev pub invariant-loop-k : goal.invariant-loop-k
-invariant-loop-k l = (l.k ≤ l.c) × Sourced (tabled l.i l.c l.o l.kinds l.counts l.nets) l.order l.k l.table
-
-abbrev pub decreases-loop-k : goal.decreases-loop-k
-decreases-loop-k l = l.c - l.k
+abbrev pub invariant-loop-cell : goal.invariant-loop-cell
+invariant-loop-cell l = Sourced (netlist_in l.cells) l.cells.order.now l.cell-index l.table

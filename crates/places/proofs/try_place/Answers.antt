@@ -1,32 +1,25 @@
 -- A place with no open output in g stays as it is, and a place that is tried gets the word that covers its faults anew.
 use mathlib.Core.Path.{refl}
 use native.Mathlib.Omega.{arith}
-use lib.ListN.{get_or}
-use Rattle.places.proofs.Places.{place_idle, place_open}
+use Rattle.places.proofs.Places.{place_idle, place_open, home_of}
 use Rattle.places.proofs.try_place.Goals as goal
 
-pub try_cell-requires : goal.try_cell-requires
-try_cell-requires c = let R = c.requires.good_run in record { chip = c.requires.chip; apart = c.requires.apart; p_lt_cells = (c.requires.p_lt_cells.0, R.words, c.requires.p_lt_cells.1); good = R.good (get_or c.args.groups.now c.args.p 0); chunk_bound = (R.chunk, R.outs_long, R.outs_low); long = c.requires.long }
-
-pub left_of-requires : goal.left_of-requires
-left_of-requires c =
+pub try_home-requires-clause-net_lt_pin : goal.try_home-requires-clause-net_lt_pin
+try_home-requires-clause-net_lt_pin c =
     let H = c.requires.chip in
-    let l = c.requires.p_lt_cells.0 in record { apart = c.requires.apart; p_lt_c = (l, H.few, omega (arith, H.listed, l), H.count c.args.p l, H.first c.args.p l); p_bound = (omega (arith, (H.pins c.args.p l).pins, c.requires.apart.pins_long), c.try_cell.ensures.home_tried.looked.long_left) }
+    let A = c.requires.apart in
+    let R = c.requires.good_run in
+    let (l, back) = c.requires.p_lt_cells in rw c.cell_at-home.ensures ((
+      omega (arith, A.cell c.args.p l),
+      omega (arith, (H.pins c.args.p l).pins, A.pins_long, A.few_inputs, H.few),
+      home_of _ _ _ _ _ _ _ _ _ _ H l,
+    ))
 
-pub offset_bounds-groups-p-then-u-ne0 : goal.offset_bounds-groups-p-then-u-ne0
-offset_bounds-groups-p-then-u-ne0 c = omega (arith, c.requires.chip.few, c.requires.p_lt_cells.0)
-
-pub bounds-groups-p-then-u-ne0 : goal.bounds-groups-p-then-u-ne0
-bounds-groups-p-then-u-ne0 c = omega (arith, c.requires.chip.few, c.requires.p_lt_cells.0, c.requires.groups_len)
-
-pub returns-then-u-ne0 : goal.returns-then-u-ne0
-returns-then-u-ne0 c =
+pub returns-then-u-ne0-clause-place_done : goal.returns-then-u-ne0-clause-place_done
+returns-then-u-ne0-clause-place_done c =
     let l = c.requires.p_lt_cells.0 in
-    let T = c.try_cell.ensures in record {
-      place_done = place_open _ _ _ _ _ _ _ _ _ _ _ _ _ _ _ _ _ _ _ _ _ _ _ _ c.requires.chip c.requires.apart c.requires.good_run l (omega (arith, c.requires.chip.few, l))
-          c.requires.groups_len c.if-u-ne0.true T.home_tried c.left_of.ensures refl;
-      vals_after = T.vals_after;
-    }
+    let T = c.try_home.ensures in place_open _ _ _ _ _ _ _ _ _ _ _ _ _ _ _ _ _ _ _ _ _ _ _ _ c.requires.chip c.requires.apart c.requires.good_run l (omega (arith, c.requires.chip.few, l))
+    (omega arith) c.if-u-ne0.true (rw c.cell_at-home.ensures at T.home_tried) (rw c.cell_at-home.ensures at c.left_at.ensures) refl
 
-pub returns-else-u-ne0 : goal.returns-else-u-ne0
-returns-else-u-ne0 c = record { place_done = place_idle _ _ _ _ _ _ _ _ _ _ _ _ _ _ _ _ _ c.requires.long c.requires.groups_len c.if-u-ne0.false; vals_after = c.requires.p_lt_cells.1 }
+pub returns-else-u-ne0-clause-place_done : goal.returns-else-u-ne0-clause-place_done
+returns-else-u-ne0-clause-place_done c = place_idle _ _ _ _ _ _ _ _ _ _ _ _ _ _ _ _ _ (record { long_left = omega arith; long_best = omega arith; long_pat = omega arith }) (omega arith) c.if-u-ne0.false

@@ -1,10 +1,18 @@
--- A length that i does not divide is no play and gives 1,025, else the quotient is the number of clocks.
+-- A play of n clocks is n times i bytes long: i divides its length, and n is the quotient.
+use Prim.Native.Nat.{◌*◌}
+use mathlib.Core.Path.{ap}
 use native.Mathlib.Omega.{arith}
-use Rattle.plays.proofs.Checked.{ragged, counted}
+use native.Mathlib.Nat.{div-add-mod'}
+use lib.ListN.{length}
+use Rattle.plays.proofs.Bytes.{clocks_quotient}
+use Rattle.plays.proofs.clock_count.Goals.{else-play-i-eq0-via-then-play-i-eq0+else-n-le1024, else-play-i-eq0-via-else-play-i-eq0}
 use Rattle.plays.proofs.clock_count.Goals as goal
 
-pub returns-then-play-i-ne0 : goal.returns-then-play-i-ne0
-returns-then-play-i-ne0 c = ragged _ _ c.requires _ (omega arith) c.if-play-i-ne0.true
-
 pub returns : goal.returns
-returns c = counted _ _ c.requires c.if-play-i-ne0.false
+returns c n K =
+    let a = c.args in
+    let q = clocks_quotient a.i a.play.now n c.requires K in
+    elim c.else-play-i-eq0.branch [
+      | else-play-i-eq0-via-then-play-i-eq0+else-n-le1024 w ↦ omega (arith, q, K.few, w.if-n-le1024.false)
+      | else-play-i-eq0-via-else-play-i-eq0 w ↦ w.if-play-i-eq0.false (omega (arith, div-add-mod' (length a.play.now) a.i, K.long, ap (λ k. k * a.i) q))
+    ]

@@ -1,34 +1,29 @@
--- The pins from k on have their entries, and each head stands behind the pins below k that share it, so pin k - 1 goes just before.
-use Prim.Native.Nat.{◌-◌}
-use mathlib.Core.Path.{◌≡◌, refl, sym, ◌∙◌}
+-- The pins from p on have their entries, and each head stands behind the pins below p that share it, so pin p - 1 goes just before.
+use Prim.Native.Nat.{◌+◌, ◌-◌}
+use mathlib.Core.Path.{◌≡◌, refl}
 use native.Mathlib.Omega.{arith}
-use Rattle.readers.specs.Readers.{key_of}
+use lib.ListN.{get_or}
+use Rattle.readers.specs.Readers.{pin_key, spot}
 use Rattle.readers.proofs.Counting.{put_here, put_more, read_more, spot_room}
 use Rattle.readers.proofs.put_readers.Goals as goal
+use Rattle.readers.proofs.put_readers.Goals.{After-head-s}
 
-pub loop-k-init : goal.loop-k-init
-loop-k-init c = (omega arith, c.requires.put, c.requires.read)
-
-pub head-s-requires : goal.head-s-requires
-head-s-requires c = let l = c.loop-k in (c.requires.heads.few_inputs, (c.requires.heads.named (l.k - 1) (omega arith)).0, (c.requires.heads.named (l.k - 1) (omega arith)).1)
+-- the entry of the pin at hand
+here : (c : After-head-s) → get_or c.loop-p.heads c.head-s.result 0 ≡ spot (pin_key c.args.pins.now) c.args.n (c.loop-p.p - 1) + 1
+here c = let l = c.loop-p in put_here l.p (l.p - 1) c.args.n _ l.heads c.head-s.result l.invariant.0 (omega arith) c.head-s.ensures.0 (omega (arith, c.head-s.ensures.1))
 
 pub overflow_sub-r : goal.overflow_sub-r
-overflow_sub-r c = let l = c.loop-k in let h = c.head-s in let q = put_here l.k (l.k - 1) c.args.n (key_of c.args.i c.args.branches.now c.args.nets.now c.args.block.now) l.heads h.result l.invariant.1 (omega arith) h.ensures.0 (omega (arith, h.ensures.1)) in let m = spot_room (key_of c.args.i c.args.branches.now c.args.nets.now c.args.block.now) c.args.n (l.k - 1) (omega arith) in omega (arith, q)
+overflow_sub-r c = omega (arith, here (goal.at.overflow_sub-r c).After-head-s)
 
-pub offset_bounds-readers-wide : goal.offset_bounds-readers-wide
-offset_bounds-readers-wide c = let l = c.loop-k in let h = c.head-s in let q = put_here l.k (l.k - 1) c.args.n (key_of c.args.i c.args.branches.now c.args.nets.now c.args.block.now) l.heads h.result l.invariant.1 (omega arith) h.ensures.0 (omega (arith, h.ensures.1)) in let m = spot_room (key_of c.args.i c.args.branches.now c.args.nets.now c.args.block.now) c.args.n (l.k - 1) (omega arith) in omega (arith, q, m, c.wide.ensures, l.invariant.2.long, c.requires.heads.few_pins)
+pub bounds-readers-from : goal.bounds-readers-from
+bounds-readers-from c =
+    omega (arith, here (goal.at.bounds-readers-from c).After-head-s, spot_room (pin_key c.args.pins.now) c.args.n (c.loop-p.p - 1) (omega arith), c.from.ensures, c.loop-p.invariant.1.long)
 
-pub bounds-readers-wide : goal.bounds-readers-wide
-bounds-readers-wide c = let l = c.loop-k in let h = c.head-s in let q = put_here l.k (l.k - 1) c.args.n (key_of c.args.i c.args.branches.now c.args.nets.now c.args.block.now) l.heads h.result l.invariant.1 (omega arith) h.ensures.0 (omega (arith, h.ensures.1)) in let m = spot_room (key_of c.args.i c.args.branches.now c.args.nets.now c.args.block.now) c.args.n (l.k - 1) (omega arith) in omega (arith, q, m, c.wide.ensures, l.invariant.2.long)
-
-pub loop-k-preserved : goal.loop-k-preserved
-loop-k-preserved c = let l = c.loop-k in let h = c.head-s in let q = put_here l.k (l.k - 1) c.args.n (key_of c.args.i c.args.branches.now c.args.nets.now c.args.block.now) l.heads h.result l.invariant.1 (omega arith) h.ensures.0 (omega (arith, h.ensures.1)) in let m = spot_room (key_of c.args.i c.args.branches.now c.args.nets.now c.args.block.now) c.args.n (l.k - 1) (omega arith) in (omega arith, put_more _ _ _ _ _ _ _ l.invariant.1 (omega arith) h.ensures.0 (omega (arith, h.ensures.1)) (omega (arith, q)), read_more _ _ _ _ _ _ _ _ _ l.invariant.2 (omega arith) (omega arith) (omega (arith, q, c.wide.ensures)) refl (c.requires.owner_len.1 (l.k - 1) (omega arith)))
-
-pub shape_of-heads : goal.shape_of-heads
-shape_of-heads c = c.loop-k.invariant.1.long ∙ sym c.requires.put.long
-
-pub shape_of-readers : goal.shape_of-readers
-shape_of-readers c = c.loop-k.invariant.2.long ∙ sym c.requires.read.long
-
-pub returns : goal.returns
-returns c = let e : c.loop-k.k ≡ 0 = omega arith in record { put_2 = rw e at c.loop-k.invariant.1; read_2 = rw e at c.loop-k.invariant.2 }
+pub loop-p-preserved : goal.loop-p-preserved
+loop-p-preserved c =
+    let l = c.loop-p in
+    let h = c.head-s in
+    let q = here (goal.at.loop-p-preserved c).After-head-s in (
+      put_more _ _ _ _ _ _ _ l.invariant.0 (omega arith) h.ensures.0 (omega (arith, h.ensures.1)) (omega (arith, q)),
+      read_more _ _ _ _ _ _ _ _ _ l.invariant.1 (omega arith) (omega arith) (omega (arith, q, c.from.ensures)) refl (c.requires.owner_len.1 (l.p - 1) (omega arith)),
+    )

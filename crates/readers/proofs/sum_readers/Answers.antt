@@ -4,14 +4,19 @@ use native.Mathlib.Omega.{arith}
 use Rattle.readers.proofs.Counting.{sum_none, sum_more, sum_small, sum_all}
 use Rattle.readers.proofs.sum_readers.Goals as goal
 
-pub loop-s-init : goal.loop-s-init
-loop-s-init c = (omega arith, sum_none _ _ _ c.requires.1)
+pub loop-head-init : goal.loop-head-init
+loop-head-init c = λ n key. sum_none n key _
 
-pub overflow_add-at : goal.overflow_add-at
-overflow_add-at c = let l = c.loop-s in omega (arith, sum_small _ _ _ _ _ l.invariant.1 (omega arith))
+pub overflow_add-end : goal.overflow_add-end
+overflow_add-end c =
+    let (n, key, few, C) = c.requires in
+    omega (arith, few, sum_small c.loop-head.head-index n key _ _ (c.loop-head.invariant n key C) (omega (arith, C.long)))
 
-pub loop-s-preserved : goal.loop-s-preserved
-loop-s-preserved c = let l = c.loop-s in (omega arith, sum_more _ _ _ _ _ _ l.invariant.1 (omega arith) refl)
+pub loop-head-preserved : goal.loop-head-preserved
+loop-head-preserved c = λ n key C. sum_more _ _ _ _ _ _ (c.loop-head.invariant n key C) (omega (arith, C.long)) refl
 
 pub returns : goal.returns
-returns c = let e : c.loop-s.s ≡ 5185 = omega arith in sum_all _ _ _ _ (rw e at c.loop-s.invariant.1)
+returns c = λ n key C.
+    let l = c.loop-head in
+    let e : l.head-index ≡ 5185 = omega (arith, C.long) in
+    sum_all _ _ _ _ (rw e at (l.invariant n key C))

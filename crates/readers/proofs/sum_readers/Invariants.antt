@@ -1,9 +1,6 @@
-use Prim.Native.Nat.{◌-◌, ◌≤◌}
-use Rattle.readers.specs.Readers.{key_of, Summed}
+use Prim.Native.Nat.{ℕ}
+use Rattle.readers.specs.Readers.{Counted, Summed}
 use Rattle.readers.proofs.sum_readers.Given as goal
 
-abbrev pub invariant-loop-s : goal.invariant-loop-s
-invariant-loop-s l = (l.s ≤ 5185) × Summed l.s l.n (key_of l.i l.branches l.nets l.block) l.heads l.at
-
-abbrev pub decreases-loop-s : goal.decreases-loop-s
-decreases-loop-s l = 5185 - l.s
+abbrev pub invariant-loop-head : goal.invariant-loop-head
+invariant-loop-head l = (n : ℕ) (key : ℕ → ℕ) → Counted n key l.initial.heads → Summed l.head-index n key l.heads l.end

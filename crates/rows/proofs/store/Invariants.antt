@@ -1,10 +1,7 @@
-use Rattle.rows.specs.Rows.{Filled}
-use Prim.Native.Nat.{◌-◌, ◌*◌, ◌≤◌}
+use Prim.Native.Nat.{ℕ, ◌<◌}
+use mathlib.Core.Path.{◌≡◌}
 use lib.ListN.{get_or}
 use Rattle.rows.proofs.store.Given as goal
 
 abbrev pub invariant-loop-k : goal.invariant-loop-k
-invariant-loop-k l = (l.k ≤ 16) × Filled (16 * l.s) l.k (λ k. get_or l.acc k 0) l.initial.vals l.vals
-
-abbrev pub decreases-loop-k : goal.decreases-loop-k
-decreases-loop-k l = 16 - l.k
+invariant-loop-k l = (i : ℕ) → i < l.k → get_or l.word-items i 0 ≡ get_or l.acc i 0

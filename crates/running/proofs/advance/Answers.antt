@@ -1,19 +1,10 @@
 -- The words that the flip-flops take are worked out before one is stored, so all are those of the clock that ends.
-use mathlib.Core.Path.{◌≡◌, ◌∙◌}
-use native.Mathlib.Omega.{arith}
-use lib.ListN.{length, get_or}
+use mathlib.Core.Path.{◌∙◌}
+use lib.ListN.{get_or}
 use Rattle.words.specs.Lanes.{wired}
 use Rattle.running.specs.Clock.{cell_word}
 use Rattle.running.proofs.Words.{stored_same}
 use Rattle.running.proofs.advance.Goals as goal
-
-pub next_words-requires : goal.next_words-requires
-next_words-requires c =
-    let e : length c.args.slots.now ≡ 1152 = omega arith in
-    rw e c.requires.0
-
-pub store_words-requires : goal.store_words-requires
-store_words-requires c = (omega (arith, c.requires.0.few), λ t l. omega (arith, c.requires.1 t (omega arith)))
 
 pub returns : goal.returns
 returns c =

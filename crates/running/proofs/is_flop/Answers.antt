@@ -7,6 +7,6 @@ pub returns-then-kind-eq8 : goal.returns-then-kind-eq8
 unfolding is_flop
 returns-then-kind-eq8 c = rw (eq-eqb _ _ c.if-kind-eq8.true)
 
-pub returns : goal.returns
+pub returns-else-kind-eq8 : goal.returns-else-kind-eq8
 unfolding is_flop
-returns c = rw (ne_eqb _ _ c.if-kind-eq8.false)
+returns-else-kind-eq8 c = rw (ne_eqb _ _ c.if-kind-eq8.false)

@@ -3,6 +3,7 @@ use Prim.Native.Nat.{ℕ, ◌+◌, ◌≤◌, ◌<◌}
 use mathlib.Core.Path.{◌≡◌, refl, sym, ◌∙◌}
 use mathlib.Core.Bool.{beq}
 use mathlib.Core.List.{List}
+use Rattle.std.specs.Prelude.{Some, None}
 use native.Mathlib.Omega.{arith}
 use borrow.Author.Tests.{not-true, not-false}
 use Rattle.chip.specs.Netlist.{Netlist, first_pin, all_pins}
@@ -11,12 +12,11 @@ use Rattle.chip.specs.Faults.{Lines, good, stuck}
 use Rattle.chip.proofs.Pins.{on_pins}
 use Rattle.chip.proofs.Bools.{same_true, same_false}
 use Rattle.order.proofs.Order.{ranked_of}
-use Rattle.running.specs.declared.Look.TheVariants as Look
 use Rattle.running.proofs.Chips.{Looks, good_looks, bad_looks}
 use Rattle.running.proofs.Runs.{Bench, from_zeros, gates_fit, flops_fit, at_place, part_long, worked, next}
 use Rattle.running.proofs.Looking.{look_first, look_more, look_next, look_found, look_none, shown_here, not_here, of_fault}
 use Rattle.running.proofs.run_clocks.Goals as goal
-use Rattle.running.proofs.run_clocks.Goals.{Start, After-wide-outs, After-sources, In-loop-y}
+use Rattle.running.proofs.run_clocks.Goals.{Start, After-from-outs, After-sources, In-loop-y}
 
 pub bounds-firsts-c : goal.bounds-firsts-c
 bounds-firsts-c c = omega (arith, c.requires.fact.0.few_cells)
@@ -25,8 +25,8 @@ abbrev netlist : Start → Netlist
 netlist c = let a = c.args in sized a.z a.kinds.now a.counts.now a.nets.now
 
 -- the pin of output 0
-outs_pin : (c : After-wide-outs) → c.wide-outs.result ≡ first_pin (netlist (goal.at.After-wide-outs c).Start) c.args.z.cells
-outs_pin c = c.wide-outs.ensures ∙ c.requires.fact.2 c.args.z.cells (omega arith)
+outs_pin : (c : After-from-outs) → c.from-outs.result ≡ first_pin (netlist (goal.at.After-from-outs c).Start) c.args.z.cells
+outs_pin c = c.from-outs.ensures ∙ c.requires.fact.2 c.args.z.cells (omega arith)
 
 pub sources-requires : goal.sources-requires
 sources-requires c = omega (arith, c.requires.fact.1, c.requires.fact.0.few_pins)
@@ -83,8 +83,8 @@ loop-y-init c =
     )
 
 -- an output's pin is one of the pins
-out_pin : (c : In-loop-y) → c.wide-outs.result + c.loop-y.y < all_pins (netlist (goal.at.In-loop-y c).Start)
-out_pin c = omega (arith, outs_pin (goal.at.In-loop-y c).After-wide-outs, c.loop-y-test.true)
+out_pin : (c : In-loop-y) → c.from-outs.result + c.loop-y.y < all_pins (netlist (goal.at.In-loop-y c).Start)
+out_pin c = omega (arith, outs_pin (goal.at.In-loop-y c).After-from-outs, c.loop-y-test.true)
 
 few_pins : (c : In-loop-y) → all_pins (netlist (goal.at.In-loop-y c).Start) ≤ 4096
 few_pins c = c.requires.fact.0.few_pins
@@ -117,7 +117,7 @@ loop-y-preserved c =
       omega (arith, taken),
       c.loop-y.invariant.1,
       λ f K. look_more (c.loop-y.invariant.2 f K)
-          (not_here (good_bench s) (bench s _ f K) (c.loop-y.invariant.2 f K) taken (rw (outs_pin at.After-wide-outs) at (sym c.at_pin.ensures ∙ same ∙ c.at_pin-in-loop-y.ensures))),
+          (not_here (good_bench s) (bench s _ f K) (c.loop-y.invariant.2 f K) taken (rw (outs_pin at.After-from-outs) at (sym c.at_pin.ensures ∙ same ∙ c.at_pin-in-loop-y.ensures))),
     )
 
 pub advance-requires : goal.advance-requires
@@ -141,7 +141,7 @@ returns-after-clocks c =
     let at = goal.at.returns-after-clocks c in
     let a = c.args in
     rw c.clocks.invariant.1
-    (of_fault _ c.requires.fact.0 (ranked_of c.requires.listed.ordered) (stuck a.fault) a.play.now a.d a.n c.requires.fact.3 Look.NotSeen
+    (of_fault _ c.requires.fact.0 (ranked_of c.requires.listed.ordered) (stuck a.fault) a.play.now a.d a.n c.requires.fact.3 None
     (look_none (c.clocks.invariant.2 _ (own_looks at.After-sources)) (omega (arith, c.clocks-test.false))))
 
 pub returns-then-at_pin : goal.returns-then-at_pin
@@ -152,7 +152,7 @@ returns-then-at_pin c =
     let taken = c.loop-y-test.true in
     let differ = same_false _ _ (not-true (beq c.at_pin.result c.at_pin-in-loop-y.result) c.if-at_pin.true) in
     of_fault _ c.requires.fact.0 (ranked_of c.requires.listed.ordered) (stuck a.fault) a.play.now a.d a.n c.requires.fact.3
-    (Look.Shown c.clocks.t c.loop-y.y)
+    (Some (record { clock = c.clocks.t; output = c.loop-y.y }))
     (look_found A taken c.clocks-test.true
     (shown_here (good_bench at.Start) (own_bench at.After-sources) A taken c.requires.fact.3
-    (λ e. differ (rw (outs_pin at.After-wide-outs) at c.at_pin.ensures ∙ e ∙ sym (rw (outs_pin at.After-wide-outs) at c.at_pin-in-loop-y.ensures)))))
+    (λ e. differ (rw (outs_pin at.After-from-outs) at c.at_pin.ensures ∙ e ∙ sym (rw (outs_pin at.After-from-outs) at c.at_pin-in-loop-y.ensures)))))

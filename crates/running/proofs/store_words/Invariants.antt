@@ -1,4 +1,3 @@
-use Prim.Native.Nat.{◌-◌, ◌≤◌}
 use mathlib.Core.Path.{◌≡◌}
 use lib.ListN.{get_or}
 use Rattle.running.specs.Clock.{stored}
@@ -6,7 +5,4 @@ use Rattle.running.proofs.store_words.Given as goal
 
 abbrev pub invariant-loop-s : goal.invariant-loop-s
 invariant-loop-s l =
-    (l.s ≤ l.n) × (l.slots ≡ stored l.i (λ s. get_or l.flops s 0) (λ s. get_or l.next s 0) l.initial.slots l.s)
-
-abbrev pub decreases-loop-s : goal.decreases-loop-s
-decreases-loop-s l = l.n - l.s
+    l.slots ≡ stored l.i (λ s. get_or l.flops s 0) (λ s. get_or l.next s 0) l.initial.slots l.s

@@ -5,8 +5,11 @@ use lib.ListN.{length-replicate, get_or-replicate}
 use Rattle.chip.proofs.Basics.{zero_at}
 use Rattle.search.proofs.answer_alone.Goals as goal
 
-pub judge-wides-requires : goal.judge-wides-requires
-judge-wides-requires c = let p = c.requires in record { ready = p.fact.ready; from_le_to = (omega arith, omega (arith, p.class_nonzero.1)); class_nonzero = (p.class_nonzero.0, length-replicate {A = ℕ} 5184 0, (λ x. zero_at 5184 x), length-replicate {A = ℕ} 64 0); best_len = (length-replicate {A = ℕ} 10368 64, (λ x h. get_or-replicate 10368 x 64 0 h), length-replicate {A = ℕ} 10368 0) }
+pub judge-wides-requires-clause-sites_len : goal.judge-wides-requires-clause-sites_len
+judge-wides-requires-clause-sites_len c = (length-replicate {A = ℕ} 5184 0, (λ x. zero_at 5184 x), length-replicate {A = ℕ} 64 0)
+
+pub judge-wides-requires-clause-fresh : goal.judge-wides-requires-clause-fresh
+judge-wides-requires-clause-fresh c = (record { long_left = length-replicate {A = ℕ} 10368 0; long_best = length-replicate {A = ℕ} 10368 64; long_pat = length-replicate {A = ℕ} 10368 0 }, (λ f h. get_or-replicate 10368 f 64 0 h))
 
 pub answer_judged-requires : goal.answer_judged-requires
 answer_judged-requires c =

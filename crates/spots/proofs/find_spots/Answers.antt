@@ -8,8 +8,5 @@ use Rattle.spots.proofs.find_spots.Goals as goal
 pub list_blocks-requires : goal.list_blocks-requires
 list_blocks-requires c = let R = c.requires.ready in (R.limits.few_outputs, ready_few R, length-replicate {A = ℕ} 1024 0)
 
-pub put_depths-requires : goal.put_depths-requires
-put_depths-requires c = ((_, c.requires.ready), c.put_depths-arg-1.given.0.1)
-
 pub returns : goal.returns
 returns c y t = spots_found c.requires.ready c.requires.class_nonzero _ _ _ _ _ c.list_blocks.ensures c.put_depths.ensures y t

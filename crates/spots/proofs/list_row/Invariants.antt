@@ -1,4 +1,4 @@
-use Prim.Native.Nat.{◌-◌, ◌≤◌}
+use Prim.Native.Nat.{◌≤◌}
 use mathlib.Core.Path.{◌≡◌}
 use Rattle.walk.specs.Walk.{width_of}
 use Rattle.spots.specs.Marks.{Changed, RowMark}
@@ -6,7 +6,4 @@ use Rattle.spots.proofs.list_row.Given as goal
 
 abbrev pub invariant-loop-k : goal.invariant-loop-k
 invariant-loop-k l =
-    (l.k ≤ l.b) × (l.w ≤ l.k) × (l.w ≡ width_of l.k l.reached l.z) × Changed (RowMark l.k l.z l.reached) l.initial.lists l.lists
-
-abbrev pub decreases-loop-k : goal.decreases-loop-k
-decreases-loop-k l = l.b - l.k
+    (l.w ≤ l.k) × (l.w ≡ width_of l.k l.reached l.z) × Changed (RowMark l.k l.z l.reached) l.initial.lists l.lists

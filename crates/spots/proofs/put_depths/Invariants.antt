@@ -1,4 +1,3 @@
-use Prim.Native.Nat.{suc, ◌-◌, ◌≤◌}
 use Rattle.chip.specs.Inner.Tables.{sized}
 use Rattle.levels.specs.Levels.{MasksBefore}
 use Rattle.spots.specs.Marks.{Changed, DepthMark}
@@ -6,8 +5,5 @@ use Rattle.spots.proofs.put_depths.Given as goal
 
 abbrev pub invariant-loop-e : goal.invariant-loop-e
 invariant-loop-e l =
-    (l.e ≤ suc l.d) × MasksBefore (sized l.z l.kinds l.counts l.nets) l.e l.before
+    MasksBefore (sized l.z l.kinds l.counts l.nets) l.e l.before
     × Changed (DepthMark (sized l.z l.kinds l.counts l.nets) l.d l.e l.outs l.block l.lists) l.initial.spots l.spots
-
-abbrev pub decreases-loop-e : goal.decreases-loop-e
-decreases-loop-e l = suc l.d - l.e

@@ -1,10 +1,6 @@
-use Prim.Native.Nat.{◌-◌, ◌≤◌}
 use Rattle.spots.specs.Marks.{Changed, LevelMark}
 use Rattle.spots.proofs.put_level.Given as goal
 
 abbrev pub invariant-loop-p : goal.invariant-loop-p
 invariant-loop-p l =
-    (l.p ≤ l.n) × Changed (LevelMark l.z.inputs l.z.outputs l.p l.from l.outs l.branches l.block l.words l.lists) l.initial.spots l.spots
-
-abbrev pub decreases-loop-p : goal.decreases-loop-p
-decreases-loop-p l = l.n - l.p
+    Changed (LevelMark l.z.inputs l.z.outputs l.p l.from l.outs l.branches l.block l.words l.lists) l.initial.spots l.spots

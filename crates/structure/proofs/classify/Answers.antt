@@ -8,5 +8,5 @@ returns-then-block-i c = record { one = λ l. omega arith; two = λ l m. omega a
 pub returns-then-input-i : goal.returns-then-input-i
 returns-then-input-i c = record { one = λ l. omega arith; two = λ l m. omega arith; three = λ l m. omega arith }
 
-pub returns : goal.returns
-returns c = record { one = λ l. omega arith; two = λ l m. omega arith; three = λ l m. omega arith }
+pub returns-else-input-i : goal.returns-else-input-i
+returns-else-input-i c = record { one = λ l. omega arith; two = λ l m. omega arith; three = λ l m. omega arith }

@@ -4,19 +4,16 @@ use mathlib.Core.Path.{refl}
 use Rattle.levels.proofs.Nets.{below_all}
 use Rattle.structure.proofs.deeper.Goals as goal
 
-pub level-requires : goal.level-requires
-level-requires c = let P = c.requires in record { in_limits = P.in_order.limits; first_pins = P.in_order.first_pins; ordered = P.in_order.ordered; masks_before = P.masks_before }
-
 pub join_inputs-requires : goal.join_inputs-requires
 join_inputs-requires c =
     let T = c.requires.in_order in
-    (T.limits.few_inputs, T.limits.few_outputs, omega (arith, T.limits.few_pins, T.branched.pins))
+    (T.sorted.limits.few_inputs, T.sorted.limits.few_outputs, omega (arith, T.sorted.limits.few_pins, T.branched.pins))
 
-pub overflow_add-i : goal.overflow_add-i
-overflow_add-i c = let T = c.requires.in_order in omega (arith, T.limits.few_inputs, T.limits.few_cells)
+pub overflow_add-z : goal.overflow_add-z
+overflow_add-z c = let T = c.requires.in_order in omega (arith, T.sorted.limits.few_inputs, T.sorted.limits.few_cells)
 
 pub any_net-requires : goal.any_net-requires
-any_net-requires c = let T = c.requires.in_order in omega (arith, T.limits.few_inputs, T.limits.few_cells)
+any_net-requires c = let T = c.requires.in_order in omega (arith, T.sorted.limits.few_inputs, T.sorted.limits.few_cells)
 
 pub returns : goal.returns
 returns c =
@@ -25,6 +22,6 @@ returns c =
     let masks = c.level.ensures in
     record {
       next = masks.nets;
-      joined = c.join_inputs.ensures _ e _ T.limits T.ordered refl T.branched masks c.requires.labels;
-      reached = below_all _ e T.limits.sound (c.any_net.ensures _ e (omega arith) masks.nets);
+      joined = c.join_inputs.ensures _ e _ T.sorted.limits T.sorted.ordered refl T.branched masks c.requires.labels;
+      reached = below_all _ e T.sorted.limits.sound (c.any_net.ensures _ e (omega arith) masks.nets);
     }

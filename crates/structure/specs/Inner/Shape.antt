@@ -1,28 +1,28 @@
 -- What is worked out of a netlist once, for every call that follows.
-use Rattle.std.specs.Prelude.{ℕ, suc, ◌+◌, ◌≤◌, ◌<◌, ◌≡◌, List, get_or}
+use Rattle.std.specs.Prelude.{ℕ, suc, ◌+◌, ◌≤◌, ◌<◌, ◌≡◌, ◌⊎◌, List, get_or, MatchResult}
+use Rattle.chip.specs.Got.{Got}
+use Rattle.chip.specs.declared.Reason.{Reason}
+use Rattle.chip.specs.declared.Refusal.{Refusal}
 use Rattle.chip.specs.Netlist.{Netlist, all_pins}
 use Rattle.chip.specs.Inner.Limits.{InLimits}
 use Rattle.chip.specs.Inner.Tables.{FirstPins, BranchTable}
 use Rattle.chip.specs.Class.{LoopFree, Branch, Depth, Lowest, Prepared, blocks}
 use Rattle.chip.specs.Clocks.{BlockReaches}
 use Rattle.order.specs.Order.{Ordered}
+use Rattle.order.specs.Sorted.{netlist_in, IsSorted}
+use Rattle.order.specs.declared.Sorted.{Sorted}
 use Rattle.levels.specs.Levels.{Mask, MasksBefore, AnyReach}
 use Rattle.levels.specs.Branches.{Branched}
 use Rattle.blocks.specs.Labels.{LevelJoined, BlockTable}
 use Rattle.balance.specs.Balance.{SeenMasks, LowestConflict, LowestUneven}
 use Rattle.chip.specs.Refusals.{When9, When10, When11}
 use Rattle.structure.specs.declared.Shape.{Shape}
-use Rattle.structure.specs.declared.Depths.{Depths}
-use Rattle.structure.specs.declared.Depths.TheVariants.{Is, Over}
-use Rattle.structure.specs.declared.Found.{Found}
-use Rattle.structure.specs.declared.Found.TheVariants.{Looped, TooDeep, Chip}
+use Rattle.structure.specs.declared.Measured.{Measured}
 
--- a netlist within the limits, with its first pins, an order of its cells, its number of pins n and its branches
-pub record InOrder (N : Netlist) (n : ℕ) (firsts order branches : List ℕ) : Type 0 where
-  pub limits : InLimits N
-  pub first_pins : FirstPins N firsts
-  pub ordered : Ordered N order
-  pub branched : Branched N N.inputs n branches
+-- a netlist within the limits whose cells are in order, with its number of pins and its branches
+pub record InOrder (t : Sorted) (branches : List ℕ) : Type 0 where
+  pub sorted : IsSorted t
+  pub branched : Branched (netlist_in t) t.sizes.inputs t.sizes.pins branches
 
 -- one depth further: the masks of the nets for the next, the labels with all pairs at this depth joined, the outputs reached at it
 pub record Deeper (N : Netlist) (e : ℕ) (masks : List ℕ) (low low' : ℕ → ℕ) (outs : ℕ) : Type 0 where
@@ -36,9 +36,12 @@ pub record DepthFound (N : Netlist) (low : ℕ → ℕ) (d : ℕ) : Type 0 where
   pub lowest : Lowest N low
   pub shallow : d ≤ 255
 
-abbrev pub DepthIs : Netlist → List ℕ → (ℕ → ℕ) → Depths → Type 0
-DepthIs N branches low (Is m) = DepthFound N low m.depth × LowestUneven N branches m.input
-DepthIs N branches low (Over z) = When10 N z
+-- the refusal is 10 at such an output
+abbrev pub IsDeep : Netlist → Refusal → Type 0
+IsDeep N e = (e.reason ≡ Reason.TooDeep) × When10 N e.place
+
+abbrev pub DepthIs : Netlist → List ℕ → (ℕ → ℕ) → Got Measured → Type 0
+DepthIs N branches low r = MatchResult r (λ m. DepthFound N low m.depth × LowestUneven N branches m.input) (IsDeep N)
 
 -- branches with one label are branches of one input
 abbrev pub OneInput : Netlist → List ℕ → Type 0
@@ -79,7 +82,9 @@ pub record Ready (N : Netlist) (n : ℕ) (s : Shape) (firsts order branches bloc
   pub pins : n ≡ all_pins N
   pub shaped : Shaped N firsts order branches block reached s
 
-abbrev pub FoundIs : Netlist → List ℕ → List ℕ → List ℕ → List ℕ → List ℕ → Found → Type 0
-FoundIs N firsts order branches block reached (Looped n) = When9 N n
-FoundIs N firsts order branches block reached (TooDeep z) = LoopFree N × When10 N z
-FoundIs N firsts order branches block reached (Chip s) = Shaped N firsts order branches block reached s
+-- the refusal is 9 at the lowest net that reaches itself
+abbrev pub IsLooped : Netlist → Refusal → Type 0
+IsLooped N e = (e.reason ≡ Reason.Looped) × When9 N e.place
+
+abbrev pub FoundIs : Netlist → List ℕ → List ℕ → List ℕ → List ℕ → List ℕ → Got Shape → Type 0
+FoundIs N firsts order branches block reached r = MatchResult r (Shaped N firsts order branches block reached) (λ e. IsLooped N e ⊎ (LoopFree N × IsDeep N e))

@@ -1,10 +1,5 @@
-use Prim.Native.Nat.{◌-◌, ◌≤◌}
 use Rattle.sweeps.specs.Copied.{marked, Copied}
 use Rattle.sweeps.proofs.copy_marked.Given as goal
 
 abbrev pub invariant-loop-p : goal.invariant-loop-p
-invariant-loop-p l =
-    (l.p ≤ l.n) × Copied l.p (marked l.i l.z l.nets l.words) l.from l.to l.source l.initial.target l.target
-
-abbrev pub decreases-loop-p : goal.decreases-loop-p
-decreases-loop-p l = l.n - l.p
+invariant-loop-p l = Copied l.p (marked l.i l.z l.nets l.words) l.from l.to l.source l.initial.target l.target

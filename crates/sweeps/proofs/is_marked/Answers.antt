@@ -6,12 +6,11 @@ use lib.ListN.{get_or}
 use Rattle.sweeps.specs.Copied.{marked}
 use Rattle.sweeps.proofs.is_marked.Goals as goal
 
-pub returns-then-i-wide : goal.returns-then-i-wide
+pub returns-then-from-i : goal.returns-then-from-i
 unfolding marked
-returns-then-i-wide c = rw (le-ltb (get_or c.args.nets.now c.args.p 0) c.args.i (omega (arith, c.if-i-wide.true, c.wide.ensures))) refl
+returns-then-from-i c = rw (lt-ltb (get_or c.args.nets.now c.args.p 0) c.args.i (omega (arith, c.if-from-i.true, c.from.ensures))) c.has_bit.ensures
 
-pub returns : goal.returns
+pub returns-else-from-i : goal.returns-else-from-i
 unfolding marked
-returns c =
-    let s = c.args in
-    rw (lt-ltb (get_or s.nets.now s.p 0) s.i (omega (arith, c.if-i-wide.false, c.wide.ensures))) c.has_bit.ensures
+returns-else-from-i c =
+    rw (le-ltb (get_or c.args.nets.now c.args.p 0) c.args.i (omega (arith, c.if-from-i.false, c.from.ensures)), le-ltb c.from.result c.args.i (omega (arith, c.if-from-i.false))) refl

@@ -1,5 +1,5 @@
-use Prim.Native.Nat.{ℕ, suc, ◌-◌, ◌≤◌}
-use Rattle.chip.specs.Inner.Tables.{sized}
+use Prim.Native.Nat.{ℕ}
+use Rattle.order.specs.Sorted.{netlist_in}
 use Rattle.chip.specs.Class.{Lowest, blocks}
 use Rattle.levels.specs.Levels.{MasksBefore}
 use Rattle.sweeps.proofs.Sweeping.{SetTo}
@@ -7,8 +7,5 @@ use Rattle.sweeps.proofs.lay_play.Given as goal
 
 abbrev pub invariant-loop-e : goal.invariant-loop-e
 invariant-loop-e l =
-    (l.e ≤ suc l.d) × MasksBefore (sized l.z l.kinds l.counts l.nets) l.e l.before
-    × ((low : ℕ → ℕ) → Lowest (sized l.z l.kinds l.counts l.nets) low → SetTo (sized l.z l.kinds l.counts l.nets) (blocks (sized l.z l.kinds l.counts l.nets) low) l.d l.output l.e l.pattern l.initial.play l.play)
-
-abbrev pub decreases-loop-e : goal.decreases-loop-e
-decreases-loop-e l = suc l.d - l.e
+    MasksBefore (netlist_in l.cells) l.e l.before
+    × ((low : ℕ → ℕ) → Lowest (netlist_in l.cells) low → SetTo (netlist_in l.cells) (blocks (netlist_in l.cells) low) l.d l.output l.e l.pattern l.initial.play l.play)

@@ -1,39 +1,43 @@
 -- A branch goes to what stands for its net in its block, a pin into a pad buffer to the lowest block, any other to its net's old cell.
 use Prim.Native.Nat.{◌<◌, ◌-◌}
-use mathlib.Core.Path.{refl, ap, ◌∙◌}
+use mathlib.Core.Path.{ap, ◌∙◌}
 use native.Mathlib.Omega.{arith}
 use lib.ListN.{get_or}
-use Rattle.chip.specs.Class.{blocks}
+use Rattle.chip.specs.Netlist.{all_pins}
 use Rattle.chip.specs.Transformed.{net_for}
-use Rattle.chip.specs.Inner.Tables.{tabled}
+use Rattle.opening.specs.Open.{netlist_of}
+use Rattle.transform.specs.Inner.New.{blocks_in}
 use Rattle.transform.proofs.New.{branch_block, pad_net, cell_net}
 use Rattle.transform.proofs.new_net.Goals as goal
+use Rattle.transform.proofs.new_net.Goals.{Start}
+
+-- the pin is one of the netlist's
+pin : (s : Start) → s.args.p < all_pins (netlist_of s.args.opened.now)
+pin s = omega (arith, s.requires.pin, s.requires.copied.is_open.ready.pins)
 
 pub net_for-requires : goal.net_for-requires
-net_for-requires c = record { room = c.requires.room; k_lt_b = (omega (arith, c.wide-then-wide-i.ensures, c.requires.p_bound.2 (omega (arith, c.wide.ensures, c.if-wide-i.true))), omega (arith, c.wide-net.ensures, c.requires.p_bound.1)) }
-
-pub returns-then-wide-i : goal.returns-then-wide-i
-returns-then-wide-i c o kinds counts low m h K =
+net_for-requires c =
     let a = c.args in
-    let N = tabled a.i a.c o kinds counts a.nets.now in
-    let i : get_or a.branches.now a.p 0 < a.i = omega (arith, c.wide.ensures, c.if-wide-i.true) in
-    let (e, _) = branch_block N low a.b a.branches.now a.block.now a.lowest.now a.marks.now a.numbers.now m K a.p h i in
-    c.net_for.ensures N low a.branches.now a.block.now a.lowest.now m refl refl K
-    ∙ ap (λ k. net_for N (blocks N low) k c.wide-net.result) (c.wide-then-wide-i.ensures ∙ e)
-    ∙ ap (net_for N (blocks N low) _) c.wide-net.ensures
+    let K = c.requires.copied in
+    let h = pin (goal.at.net_for-requires c).Start in
+    let (e, l) = branch_block K a.p h (omega (arith, c.from.ensures, c.if-from-i.true)) in
+    record { copied = K; block = (omega (arith, c.from-then-from-i.ensures, l), omega (arith, c.from-net.ensures, K.is_open.ready.limits.sound.named a.p h)) }
+
+pub returns-then-from-i : goal.returns-then-from-i
+returns-then-from-i c K =
+    let (e, _) = branch_block K c.args.p (pin (goal.at.returns-then-from-i c).Start) (omega (arith, c.from.ensures, c.if-from-i.true)) in
+    c.net_for.ensures K
+    ∙ ap (λ k. net_for (netlist_of c.args.opened.now) (blocks_in K.is_open) k c.from-net.result) (c.from-then-from-i.ensures ∙ e)
+    ∙ ap (net_for (netlist_of c.args.opened.now) (blocks_in K.is_open) _) c.from-net.ensures
 
 pub returns-then-net-i : goal.returns-then-net-i
-returns-then-net-i c o kinds counts low m h K =
-    let a = c.args in
-    let N = tabled a.i a.c o kinds counts a.nets.now in
-    let w = c.wide-net.ensures in
-    ap (λ n. get_or a.lowest.now n 0) w
-    ∙ pad_net N low a.b a.branches.now a.block.now a.lowest.now a.marks.now a.numbers.now m K a.p h (omega (arith, c.wide.ensures, c.if-wide-i.false)) (omega (arith, w, c.if-net-i.true))
+returns-then-net-i c K =
+    let w = c.from-net.ensures in
+    ap (λ n. get_or c.args.found.now.lowest n 0) w
+    ∙ pad_net K c.args.p (pin (goal.at.returns-then-net-i c).Start) (omega (arith, c.from.ensures, c.if-from-i.false)) (omega (arith, w, c.if-net-i.true))
 
 pub returns : goal.returns
-returns c o kinds counts low m h K =
-    let a = c.args in
-    let N = tabled a.i a.c o kinds counts a.nets.now in
-    let w = c.wide-net.ensures in
-    let q = cell_net N low a.b a.branches.now a.block.now a.lowest.now a.marks.now a.numbers.now m K a.p h (omega (arith, c.wide.ensures, c.if-wide-i.false)) (get_or a.nets.now a.p 0 - a.i) (omega (arith, w, c.if-net-i.false)) in
+returns c K =
+    let w = c.from-net.ensures in
+    let q = cell_net K c.args.p (pin (goal.at.returns c).Start) (omega (arith, c.from.ensures, c.if-from-i.false)) (get_or c.args.opened.now.nets c.args.p 0 - c.args.opened.now.sizes.inputs) (omega (arith, w, c.if-net-i.false)) in
     omega (arith, q, w)

@@ -1,43 +1,24 @@
 -- The tables of the transformed circuit, and what they are made from.
-use Rattle.std.specs.Prelude.{ℕ, ◌+◌, ◌*◌, ◌≤◌, ◌<◌, ◌≡◌, true, cond, List, ltb, length, get_or}
+use Rattle.std.specs.Prelude.{ℕ, ◌+◌, ◌*◌, ◌≤◌, ◌<◌, ◌≡◌, true, cond, List, ltb, get_or}
 use Rattle.chip.specs.Netlist.{Netlist, first_pin, out_pin, all_pins}
-use Rattle.chip.specs.Inner.Limits.{InLimits}
-use Rattle.chip.specs.Class.{LoopFree, Lowest, Blocks, blocks}
+use Rattle.chip.specs.Class.{Blocks, blocks}
 use Rattle.chip.specs.Transformed.{copied, copy_at, net_for, home, copies, opened_net, flat, transformed}
-use Rattle.chip.specs.Inner.Tables.{tabled, BranchTable}
-use Rattle.blocks.specs.Labels.{Numbered}
-use Rattle.copies.specs.Inner.Marks.{Copies}
-use Rattle.transform.specs.declared.Totals.{Totals}
+use Rattle.copies.specs.Inner.Marks.{CopiesOf}
+use Rattle.copies.specs.declared.Copies.{Copies}
+use Rattle.opening.specs.Open.{netlist_of, IsOpen}
+use Rattle.opening.specs.declared.Chip.{Chip}
 
--- a netlist of b blocks with its m copies, which one file can hold
-pub record Copied (N : Netlist) (low : ℕ → ℕ) (b : ℕ) (branches block lowest marks numbers : List ℕ) (m : ℕ) : Type 0 where
-  pub limits : InLimits N
-  pub loop_free : LoopFree N
-  pub least : Lowest N low
-  pub branch_table : BranchTable N branches
-  pub numbered : Numbered N low block b
-  pub copies_are : Copies N (blocks N low) lowest marks numbers m
-  pub few_blocks : b ≤ 64
-  pub few_cells : N.cells + m ≤ 1024
-  pub few_pins : all_pins N + m ≤ 4096
+-- the blocks of an open chip
+abbrev pub blocks_in : {t : Chip} → IsOpen t → Blocks
+blocks_in {t} h = blocks (netlist_of t) h.ready.shaped.low
 
--- the netlist that tables hold, with the totals
-abbrev pub net_of : Totals → List ℕ → List ℕ → List ℕ → Netlist
-net_of t kinds counts nets = tabled t.inputs t.cells t.outputs kinds counts nets
-
--- the same with its copies
-pub record Totalled (t : Totals) (kinds counts nets : List ℕ) (low : ℕ → ℕ) (branches block lowest marks numbers : List ℕ) : Type 0 where
-  pub pins : t.pins ≡ all_pins (net_of t kinds counts nets)
-  pub copied : Copied (net_of t kinds counts nets) low t.blocks branches block lowest marks numbers t.copies
-
--- the numbers of copies that the tables have for b blocks and c cells are those of cells that a file can hold
-pub record Room (i c b : ℕ) (marks numbers : List ℕ) : Type 0 where
-  pub few_inputs : i ≤ 64
-  pub few_blocks : b ≤ 64
-  pub few_cells : c ≤ 1024
-  pub marks_long : length marks ≡ 65536
-  pub numbers_long : length numbers ≡ 65536
-  pub low : (k j : ℕ) → k < b → j < c → get_or marks (1024 * k + j) 0 ≡ 1 → c + get_or numbers (1024 * k + j) 0 < 1024
+-- an open chip and its copies, with which one file can hold it
+pub record Copied (t : Chip) (found : Copies) : Type 0 where
+  pub is_open : IsOpen t
+  pub copies_are : CopiesOf (netlist_of t) (blocks_in is_open) found
+  pub few_blocks : t.shape.blocks ≤ 64
+  pub few_cells : t.sizes.cells + found.count ≤ 1024
+  pub few_pins : t.sizes.pins + found.count ≤ 4096
 
 -- the kinds and the pin counts of k cells: c old cells, then copies, which are BUFs
 pub record NewCells (c k : ℕ) (kinds counts flats sizes : List ℕ) : Type 0 where

@@ -1,5 +1,5 @@
 -- The tables of the chip and of the bench are a stage for the group, and the bench's variables are as many as the width of the output.
-use mathlib.Core.Path.{◌≡◌, refl}
+use mathlib.Core.Path.{◌≡◌, refl, sym}
 use native.Mathlib.Omega.{arith}
 use Rattle.chip.proofs.Basics.{zero_at}
 use Rattle.slots.specs.Slots.{rel_of}
@@ -8,37 +8,31 @@ use Rattle.walk.proofs.Walking.{ready_few}
 use Rattle.benches.proofs.Stages.{stage_of}
 use Rattle.verdicts.proofs.try_like.Goals as goal
 
-pub bench-w-requires : goal.bench-w-requires
-bench-w-requires c =
-    let R = c.requires.by_index.1 in
-    let G = c.requires.class_nonzero.2 in
-    record { heads = c.requires.by_index.3.named; y_lt_outputs = (G.output, R.limits.few_outputs, omega (arith, R.pins), ready_few R, G.few); outs_len = (refl, (λ y. zero_at 64 y), refl) }
+pub bench-width-requires-clause-y_lt_outputs : goal.bench-width-requires-clause-y_lt_outputs
+bench-width-requires-clause-y_lt_outputs c =
+    let P = c.requires.prepared in
+    let G = c.requires.group in
+    (G.output, P.ready.limits.few_outputs, omega (arith, P.ready.pins), omega (arith, P.counted, ready_few P.ready), G.few)
 
-pub try_group-requires : goal.try_group-requires
-try_group-requires c =
-    let R = c.requires.by_index.1 in
-    let k = c.requires.store in record {
-      by_index = (
-        c.requires.by_index.0,
-        R.shaped.low,
-        rel_of c.args.reached.now,
-        stage_of _ _ _ _ _ _ _ _ _ _ _ _ _ R c.requires.class_nonzero.0 R.shaped.low R.shaped.prepared.lowest _ _ _ c.requires.class_nonzero.2 _ _ _ _ _ _ _ _ _ c.requires.by_index.2 c.requires.class_nonzero.1 c.requires.by_index.3 c.bench-w.ensures,
-      );
-      store = k.0;
-      long = (k.1, k.2, k.3);
-    }
+pub bench-width-requires-clause-outs_len : goal.bench-width-requires-clause-outs_len
+bench-width-requires-clause-outs_len c = (refl, (λ y. zero_at 64 y), refl)
 
-pub returns : goal.returns
-returns c =
-    let R = c.requires.by_index.1 in
-    let B = c.bench-w.ensures in
-    let T = c.try_group.ensures in
-    let e : c.bench-w.result ≡ width_of c.args.like.shape.blocks c.args.reached.now c.args.like.output = B.variables.count in record {
-      store_2 = T.store_2;
-      watch = T.watch;
-      like_tried = record {
-        long = T.group_tried.long;
-        ended = λ low L f h. rw e at (T.group_tried.ended c.requires.by_index.0 low (rel_of c.args.reached.now)
-            (stage_of _ _ _ _ _ _ _ _ _ _ _ _ _ R c.requires.class_nonzero.0 low L _ _ _ c.requires.class_nonzero.2 _ _ _ _ _ _ _ _ _ c.requires.by_index.2 c.requires.class_nonzero.1 c.requires.by_index.3 B) f h);
-      };
+pub try_group-requires-clause-by_index : goal.try_group-requires-clause-by_index
+try_group-requires-clause-by_index c =
+    let P = c.requires.prepared in
+    let S = P.ready.shaped in
+    let G = rw (sym P.counted) at c.requires.group in
+    let B = rw (sym P.counted) at c.bench-width.ensures in
+    (P.cone, S.low, rel_of c.args.chip.reached.now, stage_of _ _ _ _ _ _ _ _ _ _ _ _ _ P.ready P.even S.low S.prepared.lowest _ _ _ G _ _ _ _ _ _ _ _ _ P.cones P.sourced P.fitted B)
+
+pub returns-clause-like_tried : goal.returns-clause-like_tried
+returns-clause-like_tried c =
+    let P = c.requires.prepared in
+    let G = rw (sym P.counted) at c.requires.group in
+    let B = rw (sym P.counted) at c.bench-width.ensures in
+    let T = c.try_group.ensures.group_tried in
+    let e : c.bench-width.result ≡ width_of c.args.chip.blocks c.args.chip.reached.now c.args.y = c.bench-width.ensures.variables.count in
+    record {
+      long = T.long;
+      ended = λ low L f h. rw e at (T.ended P.cone low (rel_of c.args.chip.reached.now) (stage_of _ _ _ _ _ _ _ _ _ _ _ _ _ P.ready P.even low L _ _ _ G _ _ _ _ _ _ _ _ _ P.cones P.sourced P.fitted B) f h);
     }

@@ -1,4 +1,4 @@
-use Prim.Native.Nat.{ℕ, ◌-◌, ◌≤◌}
+use Prim.Native.Nat.{ℕ}
 use mathlib.Core.Path.{◌≡◌}
 use lib.ListN.{get_or}
 use Rattle.chip.specs.Netlist.{sum_below}
@@ -9,9 +9,5 @@ use Rattle.writing.proofs.put_cells.Given as goal
 
 abbrev pub invariant-loop-j : goal.invariant-loop-j
 invariant-loop-j l =
-    (l.j ≤ l.c)
-    × (l.p ≡ sum_below (λ k. get_or l.counts k 0) l.j)
+    (l.p ≡ sum_below (λ k. get_or l.counts k 0) l.j)
     × ((i o : ℕ) → Put (cells_file (tabled i l.c o l.kinds l.counts l.nets) l.j) l.initial.at l.initial.out l.out l.at)
-
-abbrev pub decreases-loop-j : goal.decreases-loop-j
-decreases-loop-j l = l.c - l.j

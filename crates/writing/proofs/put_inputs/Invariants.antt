@@ -1,10 +1,7 @@
-use Prim.Native.Nat.{◌+◌, ◌-◌, ◌≤◌}
+use Prim.Native.Nat.{◌+◌}
 use Rattle.chip.specs.File.{inputs_file}
 use Rattle.writing.specs.Inner.Put.{Put}
 use Rattle.writing.proofs.put_inputs.Given as goal
 
 abbrev pub invariant-loop-k : goal.invariant-loop-k
-invariant-loop-k l = (l.k ≤ l.b) × Put (inputs_file (λ k. k + 1) l.k) l.initial.at l.initial.out l.out l.at
-
-abbrev pub decreases-loop-k : goal.decreases-loop-k
-decreases-loop-k l = l.b - l.k
+invariant-loop-k l = Put (inputs_file (λ k. k + 1) l.k) l.at l.initial.out l.out (l.at + l.k)

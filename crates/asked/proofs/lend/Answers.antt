@@ -1,8 +1,0 @@
--- The length that is answered is at most that of `lent`, which filling leaves as long as it was.
-use mathlib.Core.Path.{sym}
-use lib.Seq.{length-take-le}
-use borrow.Author.Rules.{rules}
-use Rattle.asked.proofs.lend.Goals as goal
-
-pub returns : goal.returns
-returns c = (search rules, sym (length-take-le _ _ (search rules)))

@@ -1,8 +1,0 @@
--- Each turn counts down from the number of turns, so the loop ends.
-use Rattle.calls.proofs.run.Given as goal
-
-abbrev pub invariant-loop-turns : goal.invariant-loop-turns
-invariant-loop-turns l = Unit {0}
-
-abbrev pub decreases-loop-turns : goal.decreases-loop-turns
-decreases-loop-turns l = l.turns
