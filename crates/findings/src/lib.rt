@@ -1,6 +1,6 @@
 #![tactic(auto)]
 // What is answered of a fault that was looked for: a refusal (16, 15), untestable, or the pattern found, with its play.
-ghost use Rattle.std.specs.Prelude.{◌≡◌, List, ℕ, ◌+◌, ◌<◌};
+ghost use Rattle.std.specs.Prelude.{List, ℕ, ◌+◌, ◌<◌};
 ghost use Rattle.chip.specs.Inner.Tables.{sized};
 ghost use Rattle.chip.specs.Replies.{SearchOn};
 ghost use Rattle.faults.specs.Numbers.{fault_number};

@@ -3,7 +3,7 @@
 // Slot 1040 holds zeros and slot 1041 ones.
 ghost use Rattle.std.specs.Prelude.{◌≡◌, MatchOption, false, ℕ, ◌+◌, ◌-◌, ◌*◌, ◌/◌, ◌^◌, ◌≤◌, ◌<◌, length, get_or, set};
 ghost use Rattle.std.specs.Iterator.{at_most};
-ghost use Rattle.std.specs.Int.Bits.{bit_and, bit_or, bit_xor};
+ghost use Rattle.std.specs.Int.Bits.{bit_and, bit_xor};
 ghost use Rattle.rows.specs.Rows.{Filled};
 ghost use Rattle.homes.specs.Homes.{pin_word, home_word, number_of, Home, lane_at, IsFirstLane, TakesOut, SeenAt, Looked, LookedHome, HomeLanes};
 

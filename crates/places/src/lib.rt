@@ -1,11 +1,10 @@
 #![tactic(auto)]
 // All homes of a chip tried in one chunk. Fault 2 * site + v: the nets of i inputs and c cells are the first sites, then come the pins.
 // left has for each fault the outputs at which it is still looked for, groups for each place the outputs left to its faults, or more; a place whose word is 0 is passed over.
-ghost use Rattle.std.specs.Prelude.{◌≡◌, List, ℕ, ◌+◌, ◌*◌, ◌≤◌, ◌<◌, length, get_or};
+ghost use Rattle.std.specs.Prelude.{◌≡◌, List, ℕ, ◌+◌, ◌*◌, ◌≤◌, ◌<◌, get_or};
 ghost use Rattle.events.specs.Tables.{ChipOn};
-ghost use Rattle.cells.specs.Cells.{HomeTried};
 ghost use Rattle.known.specs.Setting.{GoodRun, Long};
-ghost use Rattle.stages.specs.Stage.{Apart, Covers};
+ghost use Rattle.stages.specs.Stage.{Apart};
 ghost use Rattle.places.specs.Places.{PlaceDone, PlacesDone};
 
 use chip::CELLS;

@@ -15,7 +15,7 @@ use opening::Chip;
 
 // The cells of the transformed circuit: the old ones without their flip-flops, and behind them the copies, BUFs of one pin, which stand there already.
 fn new_cells(opened: &Chip, flats: &mut [u8], sizes: &mut [u8])
-    requires is_open { IsOpen opened.now }
+    requires cells { opened.now.sizes.cells ≤ 1024 }
     requires tables { (length flats.old ≡ 1024) × (length sizes.old ≡ 1024) }
     requires copies { (j : ℕ) → j < 1024 → (get_or flats.old j 0 ≡ 0) × (get_or sizes.old j 0 ≡ 1) }
     ensures { NewCells opened.now.sizes.cells 1024 opened.now.kinds opened.now.counts flats.new sizes.new }

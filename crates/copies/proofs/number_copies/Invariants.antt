@@ -1,3 +1,4 @@
+-- The count is the sum of the marks passed, so it is the number that the next place gets.
 use Prim.Native.Nat.{ℕ, ◌≤◌, ◌<◌}
 use mathlib.Core.Path.{◌≡◌}
 use lib.ListN.{get_or}

@@ -1,1 +1,0 @@
--- The count is the sum of the marks passed, so it is the number that the next place gets.

@@ -1,1 +1,0 @@
--- Both chips are worked out on the same part of the play, the good one over its nets and the faulty one over the sources.
