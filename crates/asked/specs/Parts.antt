@@ -1,20 +1,20 @@
 -- What a call that was read has of the buffers that it is read into.
-use Rattle.std.specs.Prelude.{ℕ, ◌≤◌, ◌≡◌, List, length, replicate}
+use Rattle.std.specs.Prelude.{ℕ, ◌≤◌, ◌≡◌, List, length, replicate, take}
 use Rattle.asked.specs.declared.Call.{Call}
 use Rattle.asked.specs.declared.Call.TheVariants.{Read, Class, Transform, SetPattern, ReadBack, CheckPlay, Search}
 
--- as a buffer is lent: no longer than l, and 238 in each byte
-abbrev pub Lent : ℕ → List ℕ → Type 0
-Lent l bytes = (length bytes ≤ l) × (bytes ≡ replicate (length bytes) 238)
+-- as the start of a buffer is lent: the buffer has room bytes, and 238 in each of the first room
+abbrev pub Lent : List ℕ → ℕ → Type 0
+Lent buffer room = (room ≤ length buffer) × (take room buffer ≡ replicate room 238)
 
--- a call's file is no longer than f and its pattern or play than v, and it is lent a part of l bytes
-abbrev pub Parts : ℕ → ℕ → ℕ → Call → Type 0
-Parts f v l (Read file) = length file.now ≤ f
-Parts f v l (Class file) = length file.now ≤ f
-Parts f v l (Transform file out) = (length file.now ≤ f) × Lent l out.now
-Parts f v l (SetPattern file output pattern play) =
-    (length file.now ≤ f) × (length pattern.now ≤ v) × Lent l play.now
-Parts f v l (ReadBack file output play clock pattern) =
-    (length file.now ≤ f) × (length play.now ≤ v) × Lent l pattern.now
-Parts f v l (CheckPlay file fault play) = (length file.now ≤ f) × (length play.now ≤ v)
-Parts f v l (Search file fault play) = (length file.now ≤ f) × Lent l play.now
+-- a call's file is no longer than f and its pattern or play than v, and it is lent the start of the buffer lent
+abbrev pub Parts : ℕ → ℕ → List ℕ → Call → Type 0
+Parts f v lent (Read file) = length file.now ≤ f
+Parts f v lent (Class file) = length file.now ≤ f
+Parts f v lent (Transform file out_room) = (length file.now ≤ f) × Lent lent out_room
+Parts f v lent (SetPattern file output pattern play_room) =
+    (length file.now ≤ f) × (length pattern.now ≤ v) × Lent lent play_room
+Parts f v lent (ReadBack file output play clock pattern_room) =
+    (length file.now ≤ f) × (length play.now ≤ v) × Lent lent pattern_room
+Parts f v lent (CheckPlay file fault play) = (length file.now ≤ f) × (length play.now ≤ v)
+Parts f v lent (Search file fault play_room) = (length file.now ≤ f) × Lent lent play_room

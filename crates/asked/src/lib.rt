@@ -21,8 +21,9 @@ impl fmt::Display for BadCall {
     }
 }
 
-// A call, with its fields in their order.
-#[derive(Drop)]
+// A call, with its fields in their order. What it is lent is the start of a buffer that stays with the caller: a room says how
+// many bytes.
+#[derive(Clone, Copy)]
 pub enum Call<'a> {
     Read {
         file: &'a [u8],
@@ -32,20 +33,20 @@ pub enum Call<'a> {
     },
     Transform {
         file: &'a [u8],
-        out: &'a mut [u8],
+        out_room: usize,
     },
     SetPattern {
         file: &'a [u8],
         output: usize,
         pattern: &'a [u8],
-        play: &'a mut [u8],
+        play_room: usize,
     },
     ReadBack {
         file: &'a [u8],
         output: usize,
         play: &'a [u8],
         clock: usize,
-        pattern: &'a mut [u8],
+        pattern_room: usize,
     },
     CheckPlay {
         file: &'a [u8],
@@ -55,7 +56,7 @@ pub enum Call<'a> {
     Search {
         file: &'a [u8],
         fault: Fault,
-        play: &'a mut [u8],
+        play_room: usize,
     },
 }
 
@@ -90,13 +91,13 @@ impl TryFrom<u8> for Code {
 
 // The next call: its file is put at the start of `file`, its pattern or play at the start of `values`, and its buffer is the
 // start of `lent`. There is none at the end of the input. Nothing is read behind a field that is cut or too long.
-// Open: which call it is, and what was read: what is read comes from outside the program.
+// Open: which call it is, what was read, and the bytes of `lent` behind the call's buffer: what is read comes from outside the program, and nobody reads those bytes.
 pub fn next<'a>(
     file: &'a mut [u8],
     values: &'a mut [u8],
-    lent: &'a mut [u8],
+    lent: &mut [u8],
 ) -> Result<Option<Call<'a>>, BadCall>
-    ensures { IfOk result (λ next. IfSome next (Parts (length file.old) (length values.old) (length lent.old))) }
+    ensures { IfOk result (λ next. IfSome next (Parts (length file.old) (length values.old) lent.new)) }
 {
     let Some(code) = next_code()? else {
         return Ok(None);
@@ -107,20 +108,20 @@ pub fn next<'a>(
         Code::Class => Call::Class { file },
         Code::Transform => Call::Transform {
             file,
-            out: lend(lent)?,
+            out_room: lend(lent)?,
         },
         Code::SetPattern => Call::SetPattern {
             file,
             output: number()?,
             pattern: string(values)?,
-            play: lend(lent)?,
+            play_room: lend(lent)?,
         },
         Code::ReadBack => Call::ReadBack {
             file,
             output: number()?,
             play: string(values)?,
             clock: number()?,
-            pattern: lend(lent)?,
+            pattern_room: lend(lent)?,
         },
         Code::CheckPlay => Call::CheckPlay {
             file,
@@ -130,7 +131,7 @@ pub fn next<'a>(
         Code::Search => Call::Search {
             file,
             fault: fault()?,
-            play: lend(lent)?,
+            play_room: lend(lent)?,
         },
     }))
 }
@@ -153,32 +154,36 @@ fn number() -> Result<usize, BadCall> {
     Ok(u32::from_le_bytes(bytes) as usize)
 }
 
-// The start of a buffer, as long as the number that comes next says.
-fn part(buffer: &mut [u8]) -> Result<&mut [u8], BadCall>
-    ensures { IfOk result (λ part. length part.now ≤ length buffer.old) }
+// The length that comes next, of a part of `buffer`.
+fn length(buffer: &[u8]) -> Result<usize, BadCall>
+    ensures { IfOk result (λ n. n ≤ length buffer.now) }
 {
-    let length = number()?;
-    buffer.get_mut(..length).ok_or(BadCall)
+    let n = number()?;
+    if buffer.len() < n {
+        return Err(BadCall);
+    }
+    Ok(n)
 }
 
 // The string that comes next, put at the start of a buffer.
 fn string(buffer: &mut [u8]) -> Result<&[u8], BadCall>
     ensures { IfOk result (λ bytes. length bytes.now ≤ length buffer.old) }
 {
-    let bytes = part(buffer)?;
+    let n = length(buffer)?;
+    let bytes = &mut buffer[..n];
     if io::read_full(0, bytes) < bytes.len() {
         return Err(BadCall);
     }
     Ok(bytes)
 }
 
-// The buffer that comes next.
-fn lend(buffer: &mut [u8]) -> Result<&mut [u8], BadCall>
-    ensures { IfOk result (λ lent. Lent (length buffer.old) lent.now) }
+// The length of the buffer that comes next, which is the start of `buffer`.
+fn lend(buffer: &mut [u8]) -> Result<usize, BadCall>
+    ensures { IfOk result (Lent buffer.new) }
 {
-    let lent = part(buffer)?;
-    lent.fill(UNWRITTEN);
-    Ok(lent)
+    let room = length(buffer)?;
+    buffer[..room].fill(UNWRITTEN);
+    Ok(room)
 }
 
 // The fault that comes next: its sort, 0 for a net and else a pin, its number, and its stuck value, of which any above 255 is as

@@ -36,6 +36,7 @@ fn answer(i: usize, d: usize, r: Searched, play: &[u8], line: &mut Line)
 // Open: the bytes of the buffer and how many wait: what is printed is compared, and what a write does is outside the program.
 pub fn entry(i: usize, d: usize, fault: Fault, r: Searched, play: &[u8], line: &mut Line)
     requires { (i ≤ 64) × (d ≤ 255) × (16384 ≤ length play.now) }
+    ensures { line.new ≤ 65536 }
 {
     name(fault, line);
     answer(i, d, r, play, line);
@@ -44,7 +45,9 @@ pub fn entry(i: usize, d: usize, fault: Fault, r: Searched, play: &[u8], line: &
 
 // The line of sizes, with the depth, the class and the number of blocks.
 // Open: the bytes of the buffer and how many wait: what is printed is compared, and what a write does is outside the program.
-pub fn sizes(z: Sizes, d: usize, class: u8, b: usize, line: &mut Line) {
+pub fn sizes(z: Sizes, d: usize, class: u8, b: usize, line: &mut Line)
+    ensures { line.new ≤ 65536 }
+{
     let Sizes {
         inputs,
         cells,
@@ -59,6 +62,8 @@ pub fn sizes(z: Sizes, d: usize, class: u8, b: usize, line: &mut Line) {
 
 // The one line of a netlist that is refused.
 // Open: the bytes of the buffer and how many wait: what is printed is compared, and what a write does is outside the program.
-pub fn refused(refusal: Refusal, line: &mut Line) {
+pub fn refused(refusal: Refusal, line: &mut Line)
+    ensures { line.new ≤ 65536 }
+{
     writeln!(line, "{refusal}");
 }

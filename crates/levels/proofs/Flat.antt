@@ -9,6 +9,7 @@ use Rattle.chip.specs.Inner.Tables.{tabled}
 use Rattle.chip.specs.Transformed.{flat, flattened}
 use Rattle.chip.proofs.Basics.{takes_flat, flat_known}
 use Rattle.chip.proofs.Opened.{to_flat, from_flat}
+use Rattle.order.specs.Order.{Ordered}
 use Rattle.levels.specs.Levels.{PinMasks, ReachMasks}
 use Rattle.levels.proofs.Masks.{mask_same}
 
@@ -26,6 +27,10 @@ module _ (N : Netlist) where
         pins_taken = λ j h. takes_flat (N.kind j) (N.pins j) ∙ L.pins_taken j h;
         sound = record { pinned = L.sound.pinned; named = L.sound.named };
       }
+
+  pub flat_ordered : (order : List ℕ) → Ordered N order → Ordered (flattened N) order
+  flat_ordered order o =
+      record { cell = o.cell; place = o.place; placed = o.placed; once = o.once; after = λ k p l q. o.after k p l (record { cell = q.cell; from = q.from; to = q.to }) }
 
   -- what reaches an output at depth 0 without flip-flops reaches it at some depth
   pub flat_masks : (cone : List ℕ) → PinMasks (flattened N) 0 cone → ReachMasks N cone

@@ -49,30 +49,40 @@ impl Line {
 
     // What `write!` calls. A line takes all that comes, so there is no error to hand on.
     // Open: the bytes of the buffer and how many wait: what is printed is compared, and what a write does is outside the program.
-    pub fn write_fmt<D: fmt::Display + Drop>(&mut self, value: D) {
+    pub fn write_fmt<D: fmt::Display + Drop>(&mut self, value: D)
+        ensures { self.new ≤ 65536 }
+    {
         let _ = self.write(value);
+        prove!(self.used <= BUFFER);
     }
 
     // A blank and some bytes in hex, `-` for none.
     // Open: the bytes of the buffer and how many wait: what is printed is compared, and what a write does is outside the program.
-    pub fn hex(&mut self, bytes: &[u8]) {
+    pub fn hex(&mut self, bytes: &[u8])
+        ensures { self.new ≤ 65536 }
+    {
         self.blank(bytes.len());
         self.digits(bytes);
+        prove!(self.used <= BUFFER);
     }
 
     // A blank and some numbers of two bytes in hex, low byte first, `-` for none.
     // Open: the bytes of the buffer and how many wait: what is printed is compared, and what a write does is outside the program.
-    pub fn hex_words(&mut self, words: &[u16]) {
+    pub fn hex_words(&mut self, words: &[u16])
+        ensures { self.new ≤ 65536 }
+    {
         self.blank(words.len());
         for word in words {
             self.digits(&word.to_le_bytes());
         }
+        prove!(self.used <= BUFFER);
     }
 
     // The n clocks of a play in order, a blank and i digits each. There is room for all before the first is written.
     // Open: the bytes of the buffer and how many wait: what is printed is compared, and what a write does is outside the program.
     pub fn clocks(&mut self, play: &[u8], i: usize, n: usize)
         requires { (i ≤ 64) × (n ≤ 256) × (16384 ≤ length play.now) }
+        ensures { self.new ≤ 65536 }
     {
         self.make_room(n * (i + 1));
         let end = self.used + n * (i + 1);

@@ -13,7 +13,7 @@ use structure::Shape;
 // An open chip, with all that calls on it need: the kind and the pin count of each cell and the net of each pin, as the file has
 // them; the first pin of each cell and an order of the cells; for each pin the input that it is a branch of and its block; and
 // the outputs that each block reaches.
-#[derive(Drop)]
+#[derive(Clone, Copy)]
 pub struct Chip {
     pub sizes: Sizes,
     pub shape: Shape,

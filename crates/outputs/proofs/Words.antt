@@ -16,10 +16,10 @@ use Rattle.words.proofs.Bits.{digit_zero, digit_ones, digit_turned, not_turns}
 use Rattle.rows.proofs.Bits.{split, meet, bit_l, bit_r, bit_either}
 use Rattle.outputs.specs.Groups.{Joined, Alike, Parted}
 
-joined_none : (left : List ℕ) → Joined 0 left 0
+pub joined_none : (left : List ℕ) → Joined 0 left 0
 joined_none left = record { holds = λ f z l. absurd (omega arith); only = λ z d. absurd (false≢true (sym (digit_zero z) ∙ d)) }
 
-joined_more : (n : ℕ) (left : List ℕ) (x : ℕ) → Joined n left x → Joined (n + 1) left (bit_or x (get_or left n 0))
+pub joined_more : (n : ℕ) (left : List ℕ) (x : ℕ) → Joined n left x → Joined (n + 1) left (bit_or x (get_or left n 0))
 joined_more n left x J =
     record {
       holds = λ f z l d. elim (ℕ_discrete f n) [

@@ -5,10 +5,11 @@ use Rattle.chip.specs.Inner.Limits.{InLimits}
 use Rattle.chip.specs.Inner.Tables.{sized}
 use Rattle.chip.specs.Transformed.{flattened}
 use Rattle.chip.proofs.Basics.{zero_at}
+use Rattle.order.specs.Order.{Ordered}
 use Rattle.order.specs.Sorted.{netlist_in}
 use Rattle.levels.specs.Levels.{PinMasks}
 use Rattle.levels.proofs.Masks.{first_before}
-use Rattle.levels.proofs.Flat.{flat_tabled, flat_limits, flat_masks}
+use Rattle.levels.proofs.Flat.{flat_tabled, flat_limits, flat_ordered, flat_masks}
 use Rattle.levels.proofs.reach_masks.Goals as goal
 use Rattle.levels.proofs.reach_masks.Goals.{After-flat_kinds-gates}
 
@@ -23,12 +24,12 @@ pub level-requires : goal.level-requires
 level-requires c =
     let t = c.args.cells in
     let S = c.requires in
-    let O = S.ordered in
+    let q = sym (flat_tables (goal.at.level-requires c).After-flat_kinds-gates) in
     record {
       sorted = record {
-        limits = subst InLimits (sym (flat_tables (goal.at.level-requires c).After-flat_kinds-gates)) (flat_limits _ S.limits);
+        limits = subst InLimits q (flat_limits _ S.limits);
         first_pins = S.first_pins;
-        ordered = record { cell = O.cell; place = O.place; placed = O.placed; once = O.once; after = λ k p h q. O.after k p h (record { cell = q.cell; from = q.from; to = q.to }) };
+        ordered = subst (λ M. Ordered M t.order.now) q (flat_ordered _ _ S.ordered);
       };
       masks_before = first_before (sized t.sizes c.flat_kinds-gates.result t.counts.now t.nets.now) (replicate 1088 0) (λ n _. zero_at 1088 n);
     }

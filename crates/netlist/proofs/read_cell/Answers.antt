@@ -22,7 +22,7 @@ returns-in_err-m c =
     let w : length (take a.p a.nets.now) ≡ a.p = length-take-le _ _ (omega (arith, c.requires)) in
     let p = err_from_is_err_and c.from_residual-in_err-m.result c.from_residual-in_err-m.ensures.1 in
     record {
-      answer = rw (p.1, p.2, sym c.kind_at.ensures.result_value ∙ c.in_ok-kind.was, w, sym c.pin_count_at.ensures.result_value ∙ c.in_err-m.was);
+      answer = rw (p.1, p.2, sym c.kind_at.ensures.result_value ∙ c.in_ok-kind.was, w, rw c.from.ensures at (sym c.pin_count_at.ensures.result_value ∙ c.in_err-m.was));
       kept = rw p.1 tt;
     }
 
@@ -38,7 +38,7 @@ returns-in_err-read_pins c =
         p.2,
         sym c.kind_at.ensures.result_value ∙ c.in_ok-kind.was,
         w,
-        sym c.pin_count_at.ensures.result_value ∙ c.in_ok-m.was,
+        rw c.from.ensures at (sym c.pin_count_at.ensures.result_value ∙ c.in_ok-m.was),
         sym c.from-pins.ensures,
         said _ c.read_pins.ensures.answer c.in_err-read_pins.was,
       );
@@ -55,7 +55,7 @@ returns c =
       answer = rw (
         sym c.kind_at.ensures.result_value ∙ c.in_ok-kind.was,
         w,
-        sym c.pin_count_at.ensures.result_value ∙ c.in_ok-m.was,
+        rw c.from.ensures at (sym c.pin_count_at.ensures.result_value ∙ c.in_ok-m.was),
         sym c.from-pins.ensures,
         said _ c.read_pins.ensures.answer c.in_ok-read_pins.was,
         front_more a.kinds.now a.j (a.j + 1) _ (omega arith) c.requires.0,

@@ -28,8 +28,8 @@ loop-e-init c =
       λ low L. copied_none _ _ _ _ _ _,
     )
 
-pub copy_marked-requires-clause-places : goal.copy_marked-requires-clause-places
-copy_marked-requires-clause-places c =
+pub set_clock-requires-clause-places : goal.set_clock-requires-clause-places
+set_clock-requires-clause-places c =
     let R = c.requires.by_index.0.1 in
     set_places R c.requires.by_index.1 c.requires.output_lt_outputs.0 R.shaped.low R.shaped.prepared.lowest c.level.ensures _ _ c.requires.output_lt_outputs.1
     (part_long c.args.cells.sizes.inputs c.args.s.depth c.loop-e.e c.loop-e.play (omega (arith, c.requires.output_lt_outputs.3)))
@@ -39,7 +39,7 @@ loop-e-preserved c =
     let M = c.level.ensures in (
       rw (add-one c.loop-e.e) M.nets,
       λ low L.
-          set_step c.requires.by_index.0.1 c.requires.by_index.1 c.requires.output_lt_outputs.0 low L M _ _ _ _ (omega arith) (omega (arith, c.requires.output_lt_outputs.3)) c.copy_marked.ensures (c.loop-e.invariant.1 low L),
+          set_step c.requires.by_index.0.1 c.requires.by_index.1 c.requires.output_lt_outputs.0 low L M _ _ _ _ (omega arith) (omega (arith, c.requires.output_lt_outputs.3)) c.set_clock.ensures (c.loop-e.invariant.1 low L),
     )
 
 pub returns-2 : goal.returns-2
@@ -48,4 +48,4 @@ returns-2 c low L =
     let q : c.loop-e.e + 1 ≡ suc c.args.s.depth = omega arith in
     let idle = repeated_front (suc c.args.s.depth * c.args.cells.sizes.inputs) ((c.args.s.depth + 1) * c.args.cells.sizes.inputs) 2 c.args.play.now c.fill.new.self (omega (arith, c.requires.output_lt_outputs.3)) (omega arith) (c.fill.ensures.after (λ y e. e)) in
     laid_all R c.requires.by_index.1 c.requires.output_lt_outputs.0 low L _ _ _ _ c.requires.output_lt_outputs.2 idle
-    (rw q at (set_step R c.requires.by_index.1 c.requires.output_lt_outputs.0 low L c.level.ensures _ _ _ _ (omega arith) (omega (arith, c.requires.output_lt_outputs.3)) c.copy_marked.ensures (c.loop-e.invariant.1 low L)))
+    (rw q at (set_step R c.requires.by_index.1 c.requires.output_lt_outputs.0 low L c.level.ensures _ _ _ _ (omega arith) (omega (arith, c.requires.output_lt_outputs.3)) c.set_clock.ensures (c.loop-e.invariant.1 low L)))

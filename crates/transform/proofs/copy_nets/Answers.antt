@@ -10,7 +10,7 @@ use Rattle.chip.specs.Transformed.{net_for}
 use Rattle.chip.proofs.Basics.{pin_in, first_pin_lem}
 use Rattle.opening.specs.Open.{netlist_of}
 use Rattle.transform.specs.Inner.New.{blocks_in}
-use Rattle.transform.proofs.New.{cell_marked, number_low, copy_more, copy_skip}
+use Rattle.transform.proofs.New.{copied_net, cell_marked, number_low, copy_more, copy_skip}
 use Rattle.transform.proofs.copy_nets.Goals as goal
 use Rattle.transform.proofs.copy_nets.Goals.{In-loop-l, else-found-l-eq1, then-found-l-eq1}
 
@@ -29,7 +29,7 @@ cell_low : (c : In-loop-l) → Marked c → c.loop-l.l % 1024 < c.args.opened.no
 cell_low c m =
     let l = c.loop-l in
     let K = c.requires.copied in
-    cell_marked K (l.l / 1024) (l.l % 1024) l.l (block_low c) (omega arith) (omega arith) l.table (l.invariant.0 K) m
+    cell_marked (copied_net K) (l.l / 1024) (l.l % 1024) l.l (block_low c) (omega arith) (omega arith) l.table (l.invariant.0 K) m
 
 -- what was read is the first pin of the cell
 first_is : (c : In-loop-l) → Marked c → (p : ℕ) → p ≡ get_or c.args.opened.now.firsts (c.loop-l.l % 1024) 0 → p ≡ first_pin (net_here c) (c.loop-l.l % 1024)
@@ -54,7 +54,7 @@ number_small : (c : In-loop-l) → Marked c → (n : ℕ) → n ≡ get_or c.arg
 number_small c m n e =
     let l = c.loop-l in
     let K = c.requires.copied in
-    omega (arith, e, number_low K (l.l / 1024) (l.l % 1024) l.l (block_low c) (omega arith) (omega arith) l.table (l.invariant.0 K) m)
+    omega (arith, e, number_low (copied_net K) (l.l / 1024) (l.l % 1024) l.l (block_low c) (omega arith) (omega arith) l.table (l.invariant.0 K) m)
 
 place_low : (c : In-loop-l) → Marked c → (n : ℕ) → n ≡ get_or c.args.found.now.numbers c.loop-l.l 0 → c.args.first + n < 4096
 place_low c m n e =
@@ -86,12 +86,12 @@ loop-l-preserved c =
                 let n : w.net_for-net.result ≡ net_for N (blocks_in K.is_open) k (N.net (first_pin N j)) =
                 w.net_for-net.ensures K ∙ ap (net_for N (blocks_in K.is_open) k) (w.from.ensures ∙ ap (λ p. get_or g.opened.now.nets p 0) (first_is t m _ w.from-p.ensures)) in
                 let at : g.first + w.from-then-found-l-eq1.result ≡ out_pin N 0 + get_or g.found.now.numbers l.l 0 = omega (arith, w.from-then-found-l-eq1.ensures, c.requires.first_out.0) in
-                rw at (copy_more K k j l.l (block_low t) (omega arith) (omega arith) l.table
+                rw at (copy_more (copied_net K) k j l.l (block_low t) (omega arith) (omega arith) l.table
                 (l.invariant.0 K) w.net_for-net.result m (omega (arith, at, place_low t m _ w.from-then-found-l-eq1.ensures)) n)),
             λ p h. get_or-set_other l.table (g.first + w.from-then-found-l-eq1.result) p w.net_for-net.result 0 (outside p h (number_small t m _ w.from-then-found-l-eq1.ensures)) ∙ l.invariant.1 p h,
           )
       | else-found-l-eq1 w ↦ rw w.table-is (
-        (λ K. copy_skip K k j l.l (omega arith) (omega arith) (omega arith) l.table (l.invariant.0 K) w.if-found-l-eq1.false),
+        (λ K. copy_skip (copied_net K) k j l.l (omega arith) (omega arith) (omega arith) l.table (l.invariant.0 K) w.if-found-l-eq1.false),
         l.invariant.1,
       )
     ]

@@ -8,7 +8,7 @@ use Rattle.opening.specs.Open.{netlist_of, IsOpen}
 use Rattle.opening.specs.declared.Chip.{Chip}
 use Rattle.transform.specs.Inner.New.{blocks_in, Copied}
 use Rattle.transform.proofs.Answers.{writable_on, writes_on}
-use Rattle.transform.proofs.Filled.{fits, circuit_long}
+use Rattle.transform.proofs.Filled.{totalled, fits, circuit_long}
 use Rattle.transform.proofs.transform_on.Goals as goal
 use Rattle.transform.proofs.transform_on.Goals.{After-find_copies, Else-pins-gt4096, Start}
 
@@ -67,7 +67,7 @@ pub returns-then-out-length : goal.returns-then-out-length
 returns-then-out-length c =
     let K = held (goal.at.returns-then-out-length c).Else-pins-gt4096 in
     rw c.at-then-out-length.ensures (prepared c.requires.ready.shaped.prepared
-    (writable_on _ _ _ (fits K) (refuses (record { there = circuit_long K; holds = omega (arith, circuit_long K, c.if-out-length.true) }))))
+    (writable_on _ _ _ (fits (totalled K)) (refuses (record { there = circuit_long (totalled K); holds = omega (arith, circuit_long (totalled K), c.if-out-length.true) }))))
 
 pub put_tables-requires : goal.put_tables-requires
 put_tables-requires c = record { copied = held (goal.at.put_tables-requires c).Else-pins-gt4096; room = omega (arith, c.if-out-length.false) }
@@ -75,4 +75,4 @@ put_tables-requires c = record { copied = held (goal.at.put_tables-requires c).E
 pub returns : goal.returns
 returns c =
     let K = held (goal.at.returns c).Else-pins-gt4096 in
-    prepared c.requires.ready.shaped.prepared (rw (circuit_long K) (writes_on _ _ _ (fits K) (c.put_tables.ensures K)))
+    prepared c.requires.ready.shaped.prepared (rw (circuit_long (totalled K)) (writes_on _ _ _ (fits (totalled K)) (c.put_tables.ensures K)))
