@@ -3,11 +3,11 @@ use Rattle.std.specs.Prelude.{ℕ, ◌≤◌, ◌≡◌, List, length, replicate
 use Rattle.asked.specs.declared.Call.{Call}
 use Rattle.asked.specs.declared.Call.TheVariants.{Read, Class, Transform, SetPattern, ReadBack, CheckPlay, Search}
 
--- as the start of a buffer is lent: the buffer has room bytes, and 238 in each of the first room
+-- the first bytes of a buffer, as many as room says, are lent: it has that many, and each of them is 238
 abbrev pub Lent : List ℕ → ℕ → Type 0
 Lent buffer room = (room ≤ length buffer) × (take room buffer ≡ replicate room 238)
 
--- a call's file is no longer than f and its pattern or play than v, and it is lent the start of the buffer lent
+-- a call's file is no longer than f and its pattern or play than v, and what it is lent is the start of the buffer
 abbrev pub Parts : ℕ → ℕ → List ℕ → Call → Type 0
 Parts f v lent (Read file) = length file.now ≤ f
 Parts f v lent (Class file) = length file.now ≤ f

@@ -28,6 +28,7 @@ impl Model for Line {
     ghost invariant = { λ line. line.used ≤ 65536 };
 }
 
+// Where a method ends behind a call, a `prove!` brings in what a line keeps, which its clause says to callers.
 impl Line {
     // A buffer in which nothing waits.
     pub fn new() -> Line

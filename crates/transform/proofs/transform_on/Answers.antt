@@ -10,7 +10,7 @@ use Rattle.transform.specs.Inner.New.{blocks_in, Copied}
 use Rattle.transform.proofs.Answers.{writable_on, writes_on}
 use Rattle.transform.proofs.Filled.{totalled, fits, circuit_long}
 use Rattle.transform.proofs.transform_on.Goals as goal
-use Rattle.transform.proofs.transform_on.Goals.{After-find_copies, Else-pins-gt4096, Start}
+use Rattle.transform.proofs.transform_on.Goals.{After-find_copies, Else-pins-gt4096}
 
 -- what the copies are found from
 ways_of : {t : Chip} → IsOpen t → Ways (netlist_of t) t.sizes.pins t.firsts t.branches
